@@ -1,7 +1,7 @@
 -- Conditions by number, and what is laid for them one after another.
 use Rattle.std.proofs.Common.{◌≡◌, ℕ, zero, suc, ◌+◌, ◌*◌, ◌/◌, ◌%◌, ◌<◌, ◌≤◌, Bool, false, List, [], ◌∷◌, ◌++◌, length, inl, inr, refl, ap, sym, ◌∙◌, subst, arith}
 use Rattle.std.proofs.lemmas.Bool.{cases_lt}
-use Rattle.std.proofs.lemmas.List.{get_or_append_left, length-append}
+use Rattle.std.proofs.lemmas.List.{get_or_append_left, get_or_default, length-append}
 use Rattle.std.proofs.Math.Seq.{get_or-append_seam}
 use Rattle.px_value.specs.declared.value.Value.TheVariants.{Boolean}
 use Rattle.px_core.specs.declared.conditions.ConditionKind.{ConditionKind}
@@ -14,6 +14,7 @@ use Rattle.px_flat.specs.Row.{site_in}
 use Rattle.px_flat.specs.Sources.{sources_in}
 use Rattle.px_flat.specs.Within.{IsWithin, AreConditionsWithin}
 use Rattle.px_flat.proofs.Tables.{flat_sound}
+use Rattle.px_flat.proofs.Trees.{each_put}
 use Rattle.px_flat.proofs.Withins.{node_is_within}
 use Rattle.px_cached.specs.declared.part.Above.{Above}
 use Rattle.px_cached.specs.declared.part.Above.TheVariants as aboves
@@ -135,29 +136,24 @@ module _ (plan : List Site) (number : ℕ) (inside : number < 8 * length plan) (
       (λ i. past (begin_then other (omega (arith, below)) i) (root_then other (omega (arith, below)) i))
 
   rooted_then : (other : ℕ) → other < number + 1 → IsRoot plan new new_above other (root_at then other)
-  rooted_then other below = elim (cases_lt other number) [
-    | inl sooner ↦ subst (IsRoot plan new new_above other) (sym (root_then other sooner))
-        (root_on other (root_at roots other) (before.rooted other sooner))
-    | inr late ↦
-        let last : other ≡ number = omega (arith, late, below) in
-        subst (λ other. IsRoot plan new new_above other (root_at then other)) (sym last)
-        (subst (IsRoot plan new new_above number) (sym root_now) is)
-  ]
+  rooted_then other below = each_put (IsRoot plan new new_above) roots now
+      (λ other d sooner. subst (IsRoot plan new new_above other) (get_or_default roots other (root.Constant false) d sooner)
+      (root_on other (root_at roots other) (before.rooted other (omega (arith, sooner, before.count)))))
+      (subst (λ number. IsRoot plan new new_above number now) (sym before.count) is) other (root.Constant false)
+      (omega (arith, below, before.count, length-append roots (now ∷ [])))
 
   stands_then : (other : ℕ) → other < number + 1
       → StandsBy new (begin then other) (root_at then other) (condition_at plan other)
-  stands_then other below = elim (cases_lt other number) [
-    | inl sooner ↦
-        subst (λ at. StandsBy new (begin then other) at (condition_at plan other)) (sym (root_then other sooner))
-        (subst (λ from. StandsBy new from (root_at roots other) (condition_at plan other))
-        (sym (begin_then other (omega (arith, sooner))))
-        (stands_by_on (begin roots other) (root_at roots other) (condition_at plan other) (before.stands other sooner)))
-    | inr late ↦
-        let last : other ≡ number = omega (arith, late, below) in
-        subst (λ other. StandsBy new (begin then other) (root_at then other) (condition_at plan other)) (sym last)
-        (subst (λ at. StandsBy new (begin then number) at (condition_at plan number)) (sym root_now)
-        (subst (λ from. StandsBy new from now (condition_at plan number)) (sym (begin_then number (omega arith))) stands))
-  ]
+  stands_then other below = each_put (λ other at. StandsBy new (begin then other) at (condition_at plan other)) roots now
+      (λ other d sooner.
+      let earlier : other < number = omega (arith, sooner, before.count) in
+      subst (λ at. StandsBy new (begin then other) at (condition_at plan other)) (get_or_default roots other (root.Constant false) d sooner)
+      (subst (λ from. StandsBy new from (root_at roots other) (condition_at plan other))
+      (sym (begin_then other (omega (arith, earlier))))
+      (stands_by_on (begin roots other) (root_at roots other) (condition_at plan other) (before.stands other earlier))))
+      (subst (λ number. StandsBy new (begin then number) now (condition_at plan number)) (sym before.count)
+      (subst (λ from. StandsBy new from now (condition_at plan number)) (sym (begin_then number (omega arith))) stands))
+      other (root.Constant false) (omega (arith, below, before.count, length-append roots (now ∷ [])))
 
   one_more : IsNetwork new new_above → length new ≡ past (begin roots number) now
       → ((part node : ℕ) → length old ≤ part → part < length new → above_at new_above part ≡ aboves.Condition node

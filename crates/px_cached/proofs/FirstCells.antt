@@ -1,6 +1,6 @@
 -- Each source of a condition that has a cell begins at the cell's source.
 use Rattle.std.proofs.Common.{◌≡◌, ℕ, zero, suc, ◌+◌, ◌-◌, ◌<◌, ◌≤◌, Bool, true, false, not, ◌&&◌, List, [], ◌∷◌, ◌++◌, length, map, sum, take, replicate, get_or, Some, is_some, inl, inr, refl, ap, sym, ◌∙◌, arith, All, if◌then◌else◌}
-use Rattle.std.specs.List.{list_any, flat_map}
+use Rattle.std.specs.List.{list_any}
 use Rattle.std.specs.Option.{unwrap_or}
 use Rattle.std.proofs.lemmas.Bool.{cases_lt}
 use Rattle.std.proofs.lemmas.Grind.{flat_map-append}
@@ -11,17 +11,17 @@ use Rattle.px_core.specs.declared.conditions.ConditionKind.{ConditionKind}
 use Rattle.px_core.specs.declared.conditions.ConditionKind.TheVariants as which
 use Rattle.px_core.specs.Expr as terms
 use Rattle.px_core.specs.Expr.{Term, Terms, NoTerms, More}
-use Rattle.px_core.specs.Fit.{Scalar, Array, cells_of, cells_of_site, declares_array, declares_scalar, references, references_of_each, references_of_target, targets_of, terms_of, terms_of_conditions}
+use Rattle.px_core.specs.Fit.{Scalar, Array, cells_of, cells_of_site, declares_array, declares_scalar, references, references_of_each, terms_of_conditions}
 use Rattle.px_core.specs.Plan.{Site, VariableData, no_site, no_term, is_same}
 use Rattle.px_flat.specs.Layout.{Place, first_cell, place_from, variable_cells, state_cell, outcome_cell, failure_cell, handle_cell, acknowledgement_cell}
-use Rattle.px_flat.specs.Lookups.{lookups_in, lookups_in_each, lookups_in_body, AreKnown}
+use Rattle.px_flat.specs.Lookups.{lookups_in, lookups_in_each, AreKnown}
 use Rattle.px_flat.specs.Numbered.{each_numbered, node_of, numbered, place_of}
 use Rattle.px_flat.specs.Row.{site_in}
 use Rattle.px_flat.specs.Sources.{Source, Cells, Reports, sources_in, sources_in_each}
-use Rattle.px_flat.proofs.Known.{IsSound, back, each_known, front, site_known}
+use Rattle.px_flat.proofs.Known.{IsSound, back, conditions_known, front}
 use Rattle.px_flat.proofs.NumberedValues.{first_variable}
 use Rattle.px_flat.proofs.Sums.{sum_rest}
-use Rattle.px_flat.proofs.Variables.{IsDeclared, declared, place_at, place_behind, cells_within}
+use Rattle.px_flat.proofs.Variables.{IsDeclared, declared, declared_place, place_at, place_behind}
 use Rattle.px_flat.proofs.Worlds.{IsThere, site_there}
 use Rattle.px_cached.specs.Conditions.{condition_in, source_number}
 use Rattle.px_cached.specs.Firsts.{HasCell, firsts_from, firsts_of, source_of, variables_of}
@@ -209,7 +209,7 @@ module _ (plan : List Site) (sound : IsSound plan) (owner name : List ℕ) (form
   its = declared plan owner name form sound there
 
   some_cell : 0 < (place_of plan owner name).size
-  some_cell = omega (arith, its.has.some_cells, ap (λ (place : Place). place.size) (place_at plan owner name sound its))
+  some_cell = (declared_place plan owner name sound its).some
 
   first_is : (cell : ℕ) → HasCell (Cells (place_of plan owner name).first (place_of plan owner name).size) cell
       → (place_of plan owner name).first ≡ source_of plan cell
@@ -224,14 +224,7 @@ module _ (plan : List Site) (sound : IsSound plan) (owner name : List ℕ) (form
       let behind : own ≤ has.place.first = place_behind own variables name has.place has.is in
       let inside : cell - own < cells_of_site (site_in plan node) =
       omega (arith, in_it.0, in_it.1, first, size, behind, has.within) in
-      let below : cell < variable_cells plan = omega (
-        arith,
-        in_it.1,
-        first,
-        size,
-        has.within,
-        cells_within plan node its.within,
-      ) in
+      let below : cell < variable_cells plan = omega (arith, in_it.1, (declared_place plan owner name sound its).within) in
       let at : cell ≡ own + (cell - own) = omega (arith, in_it.0, first, behind) in
       let zero_on : 0 + own ≡ own = omega arith in
       first ∙ sym (
@@ -306,12 +299,7 @@ module _ (plan : List Site) (sound : IsSound plan) (cell : ℕ) where
     where
       each : All (λ term. AreKnown plan (references term) (lookups_in term))
           (terms_of_conditions (site_in plan node).head.conditions)
-      each = each_known plan references lookups_in (terms_of_conditions (site_in plan node).head.conditions)
-          (front plan (flat_map references (terms_of_conditions (site_in plan node).head.conditions))
-          (flat_map references (terms_of (site_in plan node).head.body)
-          ++ flat_map references_of_target (targets_of (site_in plan node).head.body))
-          (flat_map lookups_in (terms_of_conditions (site_in plan node).head.conditions))
-          (lookups_in_body (site_in plan node).head.body) (site_known plan sound node there))
+      each = conditions_known plan sound node there
 
       by : (kind : ConditionKind) → All Begins (sources_in plan (condition_in plan node kind))
       by which.Start = begin_each (site_in plan node).head.conditions.start (each 0 no_term (omega arith))

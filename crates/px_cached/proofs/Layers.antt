@@ -2,7 +2,7 @@
 use Rattle.std.proofs.Common.{◌≡◌, ◌≢◌, ℕ, ◌+◌, ◌<◌, ◌≤◌, ◌^◌, List, [], ◌∷◌, ◌++◌, length, set, Result, Ok, Err, IfOk, OnOk, inl, inr, refl, ap, sym, ◌∙◌, subst, arith, append_assoc}
 use Rattle.std.proofs.lemmas.Bool.{cases_lt}
 use Rattle.std.proofs.lemmas.Bool.Decides.{eqb_tells}
-use Rattle.std.proofs.lemmas.List.{get_or_append_left, get_or-set_same, get_or-set_other, append-nil, length-append, length-set, length_push}
+use Rattle.std.proofs.lemmas.List.{get_or_append_left, get_or_default, get_or-set_same, get_or-set_other, append-nil, length-append, length-set, length_push}
 use Rattle.std.proofs.Math.Seq.{get_or-append_seam}
 use Rattle.px_core.specs.Plan.{Site}
 use Rattle.px_flat.specs.declared.numbered.NumberedExpr.{NumberedExpr}
@@ -10,6 +10,7 @@ use Rattle.px_flat.specs.Numbered.{Numbered}
 use Rattle.px_flat.specs.NumberedData.{expr_data}
 use Rattle.px_flat.specs.Sources.{Source, sources_in}
 use Rattle.px_flat.specs.Within.{IsWithin}
+use Rattle.px_flat.proofs.Trees.{each_put}
 use Rattle.px_cached.specs.declared.part.Above.{Above}
 use Rattle.px_cached.specs.declared.part.Above.TheVariants as aboves
 use Rattle.px_cached.specs.declared.part.Joint.{Joint}
@@ -70,14 +71,9 @@ network_more : (old : List Part) (part : Part) (above new_above : List Above) �
 network_more old part above new_above is long few links over under = record {
   few = omega (arith, few, length_push old part);
   sized = long ∙ sym (length_push old part);
-  over = λ k inside. elim (cases_lt k (length old)) [
-    | inl below ↦ subst (IsOver new_above k) (sym (pushed_same old part k below))
-        (stays k below (part_at old k) (is.over k below))
-    | inr past ↦
-        let last : k ≡ length old = omega (arith, past, inside, length_push old part) in
-        subst (λ k. IsOver new_above k (part_at (old ++ part ∷ []) k)) (sym last)
-        (subst (IsOver new_above (length old)) (sym (pushed_at old part)) over)
-  ];
+  over = λ k inside. each_put (IsOver new_above) old part
+      (λ k d below. subst (IsOver new_above k) (get_or_default old k no_part d below) (stays k below (part_at old k) (is.over k below)))
+      over k no_part inside;
   under = λ k inside. subst (λ count. IsUnder count k (above_at new_above k)) (sym (length_push old part))
       (under k (omega (arith, inside, length_push old part)));
 }

@@ -1,14 +1,13 @@
 -- Readers one after another, and listeners to which they are added.
 use Rattle.std.specs.List.{list_any}
-use Rattle.std.proofs.Common.{◌≡◌, ℕ, ◌+◌, ◌<◌, ◌≤◌, Bool, true, false, nat_eq, List, [], ◌∷◌, ◌++◌, length, get_or, refl, ap, sym, ◌∙◌, subst, arith, inl, inr, ◌⊎◌, All, Contains, if◌then◌else◌}
+use Rattle.std.proofs.Common.{◌≡◌, ℕ, ◌+◌, ◌<◌, ◌≤◌, Bool, true, false, ◌||◌, nat_eq, List, [], ◌∷◌, ◌++◌, length, get_or, refl, ap, sym, ◌∙◌, subst, arith, inl, inr, ◌⊎◌, All, Contains, if◌then◌else◌}
 use Rattle.std.proofs.lemmas.Bool.{cases_lt, eq-eqb, or_left, or_right}
 use Rattle.std.proofs.lemmas.Bool.Decides.{eqb_tells}
 use Rattle.std.proofs.lemmas.List.{get_or-set_same, get_or-set_other, length-set}
 use Rattle.std.proofs.lemmas.List.Elements.{All-append, All-contains, All-contains_itself, All-map, All-nil, All-push, Contains-append_left, Contains-append_right}
 use Rattle.std.proofs.lemmas.List.Folds.{list_any-append, list_any_at}
-use Rattle.px_value.proofs.General.{All-unmap}
+use Rattle.px_value.proofs.General.{All-unmap, list_any-push}
 use Rattle.px_core.specs.Plan.{Site}
-use Rattle.px_cells.proofs.Flagging.{has-push}
 use Rattle.px_flat.specs.Layout.{all_cells, state_cell, outcome_cell, failure_cell, handle_cell, acknowledgement_cell}
 use Rattle.px_flat.specs.Lookups.{lookups_of}
 use Rattle.px_flat.specs.Numbered.{Numbered, EachNumbered, NoneNumbered, MoreNumbered, Literal, Variable, Element, StateOf, OutcomeOf, FailureOf, HandleOf, Acknowledged, Look, Unary, Binary}
@@ -149,7 +148,7 @@ module _ (listeners : ListenData) (source watcher : ℕ) (there : source < lengt
       | inr apart ↦ inr (
           ap (λ source. is_dependent listeners source other) same.1
           ∙ sym (
-          has-push dependents watcher other ∙ ap (λ last. if last then true else list_any (nat_eq other) dependents) apart.0
+          list_any-push (nat_eq other) dependents watcher ∙ ap (λ last. last || list_any (nat_eq other) dependents) apart.0
           )
           ∙ sym (ap (list_any (nat_eq other)) dependents_here)
           ∙ sym (ap (λ source. is_dependent added source other) same.1) ∙ depends

@@ -5,28 +5,15 @@ use Rattle.std.specs.List.{list_any}
 use Rattle.std.proofs.lemmas.Bool.{eqb-true, eq-eqb, false_from_ne_true}
 use Rattle.std.proofs.lemmas.Bool.Decides.{Decides-eqb, eqb_tells}
 use Rattle.std.proofs.lemmas.List.{get_or-set_same, get_or-set_other, length-set}
-use Rattle.std.proofs.lemmas.List.Folds.{list_any-append, list_any_at}
+use Rattle.std.proofs.lemmas.List.Folds.{list_any_at}
 use Rattle.std.proofs.lemmas.Map.Made.{IsDistinct-from_AllPairs}
 use Rattle.std.proofs.lemmas.Map.Steps.{length-le_from_distinct_below}
 use Rattle.std.proofs.lemmas.Map.Views.{Contains-from_any}
 use Rattle.std.proofs.lemmas.Option.{gets}
-use Rattle.px_value.proofs.General.{once_push, passes_within}
+use Rattle.px_value.proofs.General.{list_any-push, once_push, passes_within}
 use Rattle.px_cells.specs.Marks.{at_mark, AreFlagged, AreNoted, IsAsSeen}
 use Rattle.px_cells.specs.News.{with_number, with_numbers}
 use Rattle.px_cells.proofs.Marking.{at_mark-slice}
-
--- whether the first passes, or one behind it
-or_last : (a b : Bool) → (a || (b || false)) ≡ (if b then true else a)
-or_last true true = refl
-or_last true false = refl
-or_last false true = refl
-or_last false false = refl
-
--- whether a number is noted with one more
-pub has-push : (numbers : List ℕ) (at other : ℕ)
-    → list_any (nat_eq other) (numbers ++ at ∷ []) ≡ (if nat_eq other at then true else list_any (nat_eq other) numbers)
-has-push numbers at other =
-    list_any-append (nat_eq other) numbers (at ∷ []) ∙ or_last (list_any (nat_eq other) numbers) (nat_eq other at)
 
 module _ (flags : List Bool) (numbers : List ℕ) (flagged : AreFlagged flags numbers) where
   -- a noted number is below the count
@@ -41,9 +28,9 @@ module _ (flags : List Bool) (numbers : List ℕ) (flagged : AreFlagged flags nu
   pub flagged-push : (at : ℕ) → at < length flags → AreFlagged (set flags at true) (numbers ++ at ∷ [])
   flagged-push at below other = elim (eqb_tells other at) [
     | inl same ↦ ap (λ other. get_or (set flags at true) other false) same.1 ∙ get_or-set_same flags at true false below
-        ∙ sym (has-push numbers at other ∙ ap (λ b. if b then true else list_any (nat_eq other) numbers) same.0)
+        ∙ sym (list_any-push (nat_eq other) numbers at ∙ ap (λ b. b || list_any (nat_eq other) numbers) same.0)
     | inr apart ↦ get_or-set_other flags at other true false apart.1 ∙ flagged other
-        ∙ sym (has-push numbers at other ∙ ap (λ b. if b then true else list_any (nat_eq other) numbers) apart.0)
+        ∙ sym (list_any-push (nat_eq other) numbers at ∙ ap (λ b. b || list_any (nat_eq other) numbers) apart.0)
   ]
 
 -- numbers that are noted once are no more than there are flags
@@ -79,11 +66,11 @@ has-with numbers at other = by (list_any (nat_eq at) numbers) refl
         → (list_any (nat_eq other) numbers ≡ false) × (other ≢ at)
     by true there none = (none, λ same. absurd (cc (sym none ∙ ap (λ n. list_any (nat_eq n) numbers) same ∙ there)))
     by false there none = elim (eqb_tells other at) [
-      | inl same ↦ absurd (cc (sym none ∙ has-push numbers at other
-          ∙ ap (λ b. if b then true else list_any (nat_eq other) numbers) same.0))
+      | inl same ↦ absurd (cc (sym none ∙ list_any-push (nat_eq other) numbers at
+          ∙ ap (λ b. b || list_any (nat_eq other) numbers) same.0))
       | inr apart ↦ (
-        sym (has-push numbers at other
-            ∙ ap (λ b. if b then true else list_any (nat_eq other) numbers) apart.0) ∙ none,
+        sym (list_any-push (nat_eq other) numbers at
+            ∙ ap (λ b. b || list_any (nat_eq other) numbers) apart.0) ∙ none,
         apart.1,
       )
     ]

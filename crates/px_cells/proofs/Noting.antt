@@ -1,29 +1,25 @@
 -- Which cells keep an old value.
-use Rattle.std.proofs.Common.{◌≡◌, ℕ, ◌+◌, ◌*◌, ◌^◌, ◌<◌, ◌≤◌, Fits, w64, arith, Bool, true, false, ◌||◌, nat_eq, List, [], ◌∷◌, ◌++◌, length, set, get_or, slice_get, drop, Option, Some, None, is_some, refl, ap, sym, ◌∙◌, inl, inr, Contains, if◌then◌else◌}
+use Rattle.std.proofs.Common.{◌≡◌, ℕ, ◌+◌, ◌*◌, ◌^◌, ◌<◌, ◌≤◌, Fits, w64, arith, true, false, ◌||◌, nat_eq, List, [], ◌∷◌, ◌++◌, length, map, set, get_or, slice_get, drop, Option, Some, None, is_some, ap, sym, ◌∙◌, inl, inr, Contains}
 use Rattle.std.specs.List.{list_any}
-use Rattle.std.proofs.lemmas.Bool.{eq-eqb, cases_Bool}
+use Rattle.std.proofs.lemmas.Bool.{cases_Bool}
 use Rattle.std.proofs.lemmas.Bool.Decides.{eqb_tells}
-use Rattle.std.proofs.lemmas.List.{get_or-set_same, get_or-set_other, length-set, set-get_or, drop_more, drop_all}
-use Rattle.std.proofs.lemmas.List.Folds.{list_any_at}
+use Rattle.std.proofs.lemmas.List.{get_or-set_same, get_or-set_other, length-map, length-set, map-set, set-get_or, drop_more, drop_all}
+use Rattle.std.proofs.Math.ListN.{get_or-map}
 use Rattle.std.proofs.Math.Nat.{mul-le-mul_right}
-use Rattle.px_value.proofs.General.{passes_within}
-use Rattle.px_cells.specs.Marks.{AreNoted, NoneKept, at_mark}
-use Rattle.px_cells.proofs.Flagging.{has-push, not_noted}
+use Rattle.px_cells.specs.Marks.{AreFlagged, AreNoted, NoneKept, at_mark}
+use Rattle.px_cells.proofs.Flagging.{all_below, flagged-push, not_noted}
 use Rattle.px_cells.proofs.Marking.{at_mark-back, at_mark-slice}
 
 module _ {T : Type 0} where
-  -- a changed cell keeps an old value
-  pub changed_kept : (olds : List (Option T)) (changed : List ℕ) (k d : ℕ) → AreNoted olds changed → k < length changed
-      → is_some (get_or olds (get_or changed k d) None) ≡ true
-  changed_kept olds changed k d noted within =
-      noted (get_or changed k d)
-      ∙ list_any_at (nat_eq (get_or changed k d)) changed k d within (eq-eqb (get_or changed k d) (get_or changed k d) refl)
+  -- whether a cell keeps an old value is a flag beside it
+  flags_kept : (olds : List (Option T)) (changed : List ℕ) → AreNoted olds changed → AreFlagged (map is_some olds) changed
+  flags_kept olds changed noted at = get_or-map is_some olds at None ∙ noted at
 
-  -- so it is one of the cells
+  -- so a changed cell is one of the cells
   pub changed_within : (olds : List (Option T)) (changed : List ℕ) (k d : ℕ) → AreNoted olds changed
       → k < length changed → get_or changed k d < length olds
   changed_within olds changed k d noted within =
-      passes_within is_some olds (get_or changed k d) None refl (changed_kept olds changed k d noted within)
+      omega (arith, length-map olds is_some, all_below (map is_some olds) changed (flags_kept olds changed noted) k d within)
 
   -- so far from the first lies what stands at a changed number, where all have room together
   pub offset_fits : (olds : List (Option T)) (changed : List ℕ) (k size : ℕ) → AreNoted olds changed → k < length changed
@@ -41,18 +37,10 @@ module _ {T : Type 0} where
   -- a cell is noted as it keeps its value
   pub noted_first : (olds : List (Option T)) (changed : List ℕ) (at : ℕ) (value : T) → AreNoted olds changed
       → at < length olds → AreNoted (set olds at (Some value)) (changed ++ at ∷ [])
-  noted_first olds changed at value noted within k = elim (eqb_tells k at) [
-    | inl same ↦
-        ap (λ n. is_some (get_or (set olds at (Some value)) n None)) same.1
-        ∙ ap is_some (get_or-set_same olds at (Some value) None within)
-        ∙ sym (last true same.0)
-    | inr other ↦
-        ap is_some (get_or-set_other olds at k (Some value) None other.1) ∙ noted k ∙ sym (last false other.0)
-  ]
-    where
-      last : (answer : Bool) → nat_eq k at ≡ answer
-          → list_any (nat_eq k) (changed ++ at ∷ []) ≡ (if answer then true else list_any (nat_eq k) changed)
-      last answer is = has-push changed at k ∙ ap (λ b. if b then true else list_any (nat_eq k) changed) is
+  noted_first olds changed at value noted within k =
+      sym (get_or-map is_some (set olds at (Some value)) k None)
+      ∙ ap (λ flags. get_or flags k false) (map-set is_some olds at (Some value))
+      ∙ flagged-push (map is_some olds) changed (flags_kept olds changed noted) at (omega (arith, within, length-map olds is_some)) k
 
   -- ---- going over the changed cells, each of which gives its old value up
 

@@ -17,13 +17,13 @@ module _ {T : Type 0} where
   -- the first write of a cell since the mark
   pub first_write : (is_marked : Bool) (olds : List (Option T)) (values : List T) (changed : List ℕ) (at : ℕ)
       (value d : T)
-      → is_marked ≡ true → AreNoted olds changed → at < length values → is_some (get_or olds at None) ≡ false
+      → is_marked ≡ true → AreNoted olds changed → is_some (get_or olds at None) ≡ false
       → held is_marked (set olds at (Some (get_or values at d))) (set values at value) (changed ++ at ∷ [])
       ≡ written (held is_marked olds values changed) at value
-  first_write false olds values changed at value d marked noted within none = absurd (cc)
-  first_write true olds values changed at value d marked noted within none = λ i. record {
+  first_write false olds values changed at value d marked noted none = absurd (cc)
+  first_write true olds values changed at value d marked noted none = λ i. record {
     values = set values at value;
-    marked = Some (at_mark-first olds values at value d within none i);
+    marked = Some (at_mark-first olds values at value d none i);
     changed = if (sym (sym (noted at) ∙ none) i) then changed else changed ++ at ∷ [];
   }
 

@@ -4,8 +4,6 @@ use Rattle.std.proofs.Common.{flat_map, Option, Some, None, option_map, refl, sy
 use Rattle.std.specs.Option.{option_to_list}
 use Rattle.std.specs.List.{list_any}
 use denote.Enum.Bare.{same_true}
-use Rattle.std.proofs.Math.Bool.{or_comm, or-false}
-use Rattle.std.proofs.lemmas.List.Folds.{list_any-append}
 use Rattle.px_value.proofs.General.{cut_at}
 use Rattle.px_syntax.specs.contracts.word.Condition.{the_type as condition_type}
 use Rattle.px_syntax.specs.Block.{item_data}
@@ -53,14 +51,6 @@ once_again part before is one = by (is_same_once one part) (same_once_is one par
         → list_any (is_same_once one) before ≡ (same || list_any (is_same_once one) before)
     by true known = ap (λ one. list_any (is_same_once one) before) (known refl) ∙ is
     by false known = refl
-
--- it is all one where a part is put
-pub put_last : (part : Once) (before : List Once) (one : Once)
-    → list_any (is_same_once one) (before ++ part ∷ []) ≡ list_any (is_same_once one) (part ∷ before)
-put_last part before one =
-    list_any-append (is_same_once one) before (part ∷ [])
-    ∙ ap (λ b. list_any (is_same_once one) before || b) (or-false (is_same_once one part))
-    ∙ or_comm (list_any (is_same_once one) before) (is_same_once one part)
 
 -- ---- the walk over items
 

@@ -1,9 +1,9 @@
 -- What is seen of actions and branches, and which variables are seen, one after another.
-use Rattle.std.proofs.Common.{◌≡◌, ℕ, ◌+◌, ◌-◌, ◌<◌, ◌≤◌, Bool, true, false, List, [], ◌∷◌, ◌++◌, map, take, drop, length, get_or}
+use Rattle.std.proofs.Common.{◌≡◌, ℕ, ◌+◌, ◌<◌, ◌≤◌, Bool, true, false, List, [], ◌∷◌, ◌++◌, map, drop, length, get_or}
 use Rattle.std.proofs.Common.{Option, Some, None, is_some, if◌then◌else◌, arith, refl, sym, ap, ◌∙◌, append_assoc}
 use Rattle.std.specs.Option.{option_to_list}
 use Rattle.std.proofs.lemmas.List.{map-append}
-use Rattle.px_value.proofs.General.{cut_at, first_and_rest}
+use Rattle.px_value.proofs.General.{cut_at, only_one}
 use Rattle.px_syntax.specs.declared.block.Action.{Action, out-Action}
 use Rattle.px_syntax.specs.declared.expr.Identifier.{Identifier}
 use Rattle.px_syntax.specs.declared.block.Block.{Block, out-Block}
@@ -101,9 +101,6 @@ own_alone forms.Sequence items label body simple plain labelled is = absurd (cc)
 own_alone forms.UncheckedSequence items label body simple plain labelled is = absurd (cc)
 own_alone forms.Concurrence items label body simple plain labelled is = absurd (cc)
 own_alone forms.Try items label body simple plain labelled is = absurd (cc)
-
-only_one : {X : Type 0} (xs : List X) (x : X) → length xs ≡ 1 → x ≡ get_or xs 0 x → xs ≡ x ∷ []
-only_one xs x one is = first_and_rest xs x (omega (arith, one)) is ∙ ap (λ n. x ∷ take (n - 1) (drop 1 xs)) one
 
 -- a block of one action
 pub block_of_one : (block : Block) (action : Action) → length (out-Block block).actions.items ≡ 1

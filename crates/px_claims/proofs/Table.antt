@@ -1,19 +1,11 @@
 -- What a table of claims keeps, as one node wants or holds.
-use Rattle.std.proofs.Common.{◌≡◌, ◌≢◌, ℕ, Bool, List, [], ◌∷◌, length, get_or, Some, None, sym, ◌∙◌, arith}
-use Rattle.std.specs.List.{concat}
-use Rattle.std.proofs.lemmas.List.{append-nil, length-set}
+use Rattle.std.proofs.Common.{◌≡◌, ◌≢◌, ℕ, Bool, get_or, Some, None, sym, ◌∙◌}
+use Rattle.std.proofs.lemmas.List.{length-set}
 use Rattle.std.proofs.lemmas.Option.{none-some, same_Some}
 use Rattle.px_links.specs.Links.{LinksData, HoldsOthersAsBefore}
-use Rattle.px_links.specs.Lists.{nth}
 use Rattle.px_tally.specs.Tally.{TallyData, marked}
 use Rattle.px_claims.specs.Keeping.{AreTallies, HoldsContested, holder_for, is_contested}
 use Rattle.px_claims.proofs.Contested.{as_held, as_wanted, judged, unjudged}
-
--- of one list it has all cells
-pub only_list : (lists : List (List ℕ)) → length lists ≡ 1 → concat lists ≡ nth lists 0
-only_list [] long = absurd (omega (arith, long))
-only_list (list ∷ []) long = append-nil list
-only_list (list ∷ other ∷ lists) long = absurd (omega (arith, long))
 
 -- a member's group alone is concerned as it is marked
 other_group : (old : TallyData) (node variable other : ℕ) → get_or old.group_of node None ≡ Some variable

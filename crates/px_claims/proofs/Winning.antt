@@ -1,18 +1,17 @@
 -- Who goes first of each contested variable are the winners.
 use Rattle.std.proofs.Common.{◌≡◌, ◌≢◌, ℕ, suc, ◌<◌, Bool, true, false, not, ◌&&◌, ◌||◌, List, [], ◌∷◌, length, get_or, filter, Option, Some, None, is_some, refl, ap, sym, ◌∙◌, subst, arith, inl, inr, All, AllPairs}
-use Rattle.std.specs.Prelude.{nat_eq, nat_lt, if◌then◌else◌}
+use Rattle.std.specs.Prelude.{nat_eq}
 use Rattle.std.specs.Cmp.{nat_eq_equiv}
-use Rattle.std.specs.List.{list_any, range_with_len, filter_map, position, position_or_len}
-use Rattle.std.proofs.lemmas.Bool.{and_parts, and_from, cases_Bool, cases_eq, eqb-true, eq-eqb, false_from_ne_true, false≢true, lt-ltb, not-true, or_from, or_left, or_parts, or_right}
+use Rattle.std.specs.List.{list_any, range_with_len, filter_map, position}
+use Rattle.std.proofs.lemmas.Bool.{and_parts, and_from, cases_Bool, cases_eq, eqb-true, eq-eqb, false_from_ne_true, false≢true, not-true, or_from, or_left, or_parts, or_right}
 use Rattle.std.proofs.lemmas.List.Elements.{All-filter}
 use Rattle.std.proofs.lemmas.List.Folds.{Any-from_list_any, list_any_at}
 use Rattle.std.proofs.lemmas.List.FromFn.{get_or-map-range_with_len, get_or-range_with_len, length-range_with_len}
 use Rattle.std.proofs.lemmas.List.Kept.{AllPairs-cons}
 use Rattle.std.proofs.lemmas.List.Quantifiers.{position-Some}
-use Rattle.std.proofs.lemmas.List.Sums.{position_or_len_is}
 use Rattle.std.proofs.lemmas.Option.{cond_some, same_Some}
 use Rattle.px_value.specs.General.{is_number}
-use Rattle.px_value.proofs.General.{passes_within, same_bool}
+use Rattle.px_value.proofs.General.{passes_within, position_is, same_bool}
 use Rattle.px_core.specs.Plan.{Site}
 use Rattle.px_sem.specs.Conflicts.{would_start}
 use Rattle.px_sem.specs.World.{World}
@@ -131,10 +130,7 @@ held_first lists cell is = (position-Some (λ list. has list cell) lists 0 [] is
 first_holds : (lists : List (List ℕ)) (cell : ℕ) → 0 < length lists → has (nth lists 0) cell ≡ true
     → position (λ list. has list cell) lists ≡ Some 0
 first_holds lists cell some is =
-    let at : position_or_len (λ list. has list cell) lists ≡ 0 =
-    position_or_len_is (λ list. has list cell) lists 0 [] (omega arith) (λ k below. absurd (omega (arith, below))) (λ inside. is) in
-    (λ i. if nat_lt (at i) (length lists) then Some (at i) else None)
-    ∙ ap (λ inside. if inside then Some 0 else None) (lt-ltb 0 (length lists) some)
+    position_is (λ list. has list cell) lists 0 [] some (λ k below. absurd (omega (arith, below))) is
 
 -- ---- winners
 

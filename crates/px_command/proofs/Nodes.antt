@@ -1,16 +1,17 @@
 -- Parts that stand for a world of a plan still do where cells and acts are written. (This could as well stand in px_flat.)
-use Rattle.std.proofs.Common.{◌≡◌, ◌≢◌, ℕ, ◌+◌, ◌<◌, List, set, ◌∙◌, sym, subst, arith, inl, inr}
+use Rattle.std.proofs.Common.{◌≡◌, ◌≢◌, ℕ, ◌+◌, ◌<◌, true, List, length, set, ap, ◌∙◌, sym, subst, arith, inl, inr}
 use Rattle.std.proofs.lemmas.Bool.Decides.{eqb_tells}
 use Rattle.std.proofs.lemmas.Grind.{common_steps}
-use Rattle.std.proofs.lemmas.List.{length-set, get_or-set_other}
+use Rattle.std.proofs.lemmas.List.{length-set, get_or-set_same, get_or-set_other}
 use Rattle.px_value.specs.declared.value.Value.{Value}
 use Rattle.px_value.specs.declared.value.Value.TheVariants as values
 use Rattle.px_core.specs.Plan.{Site}
 use Rattle.px_flat.specs.declared.act.Act.{Act}
 use Rattle.px_flat.specs.declared.act.Act.TheVariants as under_way
-use Rattle.px_flat.specs.Layout.{node_cell, state_cell, variable_cells}
+use Rattle.px_flat.specs.Layout.{node_cell, state_cell, handle_cell, acknowledgement_cell, variable_cells}
 use Rattle.px_flat.specs.Numbered.{held}
-use Rattle.px_flat.specs.Parts.{IsParts, IsNode, act_of}
+use Rattle.px_flat.specs.Parts.{IsParts, IsNode, act_of, fits, is_handle_of, is_acknowledgement_of}
+use Rattle.px_flat.specs.Row.{site_in}
 
 -- what a write of another cell leaves
 pub elsewhere : (cells : List Value) (cell at : ℕ) (value : Value) → at ≢ cell → held (set cells cell value) at ≡ held cells at
@@ -47,10 +48,12 @@ cell_kept plan cells acts node part value some few is own = record {
   ];
 }
 
--- what a node has under way is set
-pub act_kept : (plan : List Site) (cells : List Value) (acts : List Act) (node : ℕ) (act : Act)
-    → IsParts plan cells acts → IsNode plan cells (set acts node act) node → IsParts plan cells (set acts node act)
-act_kept plan cells acts node act is own = record {
+-- what a node has under way is set to what its cells and its body may have
+pub act_kept : (plan : List Site) (cells : List Value) (acts : List Act) (node : ℕ) (act : Act) → node < length plan
+    → IsParts plan cells acts → is_handle_of act (held cells (handle_cell plan node)) ≡ true
+    → is_acknowledgement_of act (held cells (acknowledgement_cell plan node)) ≡ true
+    → fits plan (site_in plan node).head.body act ≡ true → IsParts plan cells (set acts node act)
+act_kept plan cells acts node act here is handle acknowledgement fit = record {
   all_cells = is.all_cells;
   all_acts = length-set acts node act ∙ is.all_acts;
   nodes = λ other within. elim (eqb_tells other node) [
@@ -61,3 +64,19 @@ act_kept plan cells acts node act is own = record {
         (get_or-set_other acts node other act under_way.Idle apart.1) (is.nodes other within)
   ];
 }
+  where
+    old : IsNode plan cells acts node
+    old = is.nodes node here
+
+    put : act_of (set acts node act) node ≡ act
+    put = get_or-set_same acts node act under_way.Idle (omega (arith, here, is.all_acts))
+
+    own : IsNode plan cells (set acts node act) node
+    own = record {
+      state = old.state;
+      outcome = old.outcome;
+      failure = old.failure;
+      handle = ap (λ act. is_handle_of act (held cells (handle_cell plan node))) put ∙ handle;
+      acknowledgement = ap (λ act. is_acknowledgement_of act (held cells (acknowledgement_cell plan node))) put ∙ acknowledgement;
+      act = ap (fits plan (site_in plan node).head.body) put ∙ fit;
+    }

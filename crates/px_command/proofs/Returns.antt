@@ -26,7 +26,7 @@ use Rattle.px_flat.specs.Row.{site_in}
 use Rattle.px_flat.proofs.Known.{IsSound}
 use Rattle.px_flat.proofs.Slotted.{names_differ}
 use Rattle.px_flat.proofs.Targets.{taken_alike}
-use Rattle.px_flat.proofs.Variables.{IsDeclared, place_at, target_declared, cells_within}
+use Rattle.px_flat.proofs.Variables.{IsDeclared, place_at, declared_place, target_declared}
 use Rattle.px_command.specs.Counting.{return_counts}
 use Rattle.px_command.specs.Results.{result_slot}
 use Rattle.px_command.proofs.Rows.{HasNode, has_node, counted, nothing_changes}
@@ -182,7 +182,7 @@ result_is plan cells acts node slot sound within parts is =
     at : IsSlot plan of.result (act_of acts node) (held cells (handle_cell plan node))
         (held cells (acknowledgement_cell plan node)) slot
     at = slot_place plan of.command of.args of.result.owner of.result.name of.result.index (act_of acts node) _ _ slot
-        (subst (λ (place : Place). 0 < place.size) (sym place_is) declared.has.some_cells)
+        (declared_place plan of.result.owner of.result.name sound declared).some
         (ap (λ body. fits plan body (act_of acts node)) (sym of.is) ∙ (parts.nodes node within).act)
         (ap (λ body. result_slot (numbered_body plan body) (act_of acts node)) (sym of.is) ∙ is)
 
@@ -192,16 +192,11 @@ pub slot_within : (plan : List Site) (cells : List Value) (acts : List Act) (nod
     → slot.0 < variable_cells plan
 slot_within plan cells acts node slot sound within parts is =
     let result = result_is plan cells acts node slot sound within parts is in
-    let first = ap (λ (place : Place). place.first) result.place_is in
-    let size = ap (λ (place : Place). place.size) result.place_is in
     omega (
       arith,
       result.at.cell_is,
       result.at.inside,
-      first,
-      size,
-      result.declared.has.within,
-      cells_within plan result.declared.node result.declared.within,
+      (declared_place plan result.of.result.owner result.of.result.name sound result.declared).within,
     )
 
 pub return_taken : (plan : List Site) (cells : List Value) (reports : List (LookState × Report)) (acts : List Act) (node : ℕ)

@@ -120,14 +120,16 @@ command_fits plan Nothing index abort now fit = absurd (false≢true fit)
 command_fits plan (Assign target value) index abort now fit = absurd (false≢true fit)
 command_fits plan (Update pairs) index abort now fit = absurd (false≢true fit)
 
-aborted_fits : (plan : List Site) (body : BodyData) (act : Act) → fits plan body act ≡ true
-    → fits plan body (aborted act) ≡ true
-aborted_fits plan body (under_way.Sent index abort) fit = command_fits plan body index abort aborts.Done fit
-aborted_fits plan body under_way.Idle fit = fit
-aborted_fits plan body under_way.Unwritten fit = fit
-aborted_fits plan body (under_way.Scalar old) fit = fit
-aborted_fits plan body (under_way.Element index old) fit = fit
-aborted_fits plan body under_way.Updated fit = fit
+-- what is so of an act is so of what its abort makes of it, where it is of a command whatever has become of its abort
+of_aborted : (P : Act → Type 0)
+    → ((index : Option ℕ) (abort : Abort) → P (under_way.Sent index abort) → P (under_way.Sent index aborts.Done))
+    → (act : Act) → P act → P (aborted act)
+of_aborted P sent (under_way.Sent index abort) is = sent index abort is
+of_aborted P sent under_way.Idle is = is
+of_aborted P sent under_way.Unwritten is = is
+of_aborted P sent (under_way.Scalar old) is = is
+of_aborted P sent (under_way.Element index old) is = is
+of_aborted P sent under_way.Updated is = is
 
 handle_of_sent : (act : Act) (handle : Handle) → is_sent act ≡ true → is_handle_of act (values.Handle handle) ≡ true
 handle_of_sent (under_way.Sent index abort) handle holds = refl
@@ -140,23 +142,10 @@ command_handle act index abort values.Unknown is = refl
 command_handle act index abort (values.Handle handle) is = refl
 command_handle act index abort h is = absurd (cc is)
 
-handle_of_aborted : (act : Act) (h : Value) → is_handle_of act h ≡ true → is_handle_of (aborted act) h ≡ true
-handle_of_aborted (under_way.Sent index abort) h is = command_handle (under_way.Sent index abort) index aborts.Done h is
-handle_of_aborted under_way.Idle h is = is
-handle_of_aborted under_way.Unwritten h is = is
-handle_of_aborted (under_way.Scalar old) h is = is
-handle_of_aborted (under_way.Element index old) h is = is
-handle_of_aborted under_way.Updated h is = is
-
-acknowledgement_of_aborted : (act : Act) (a : Value) → is_acknowledgement_of act a ≡ true
-    → is_acknowledgement_of (aborted act) a ≡ true
-acknowledgement_of_aborted (under_way.Sent index abort) (values.Boolean false) is = refl
-acknowledgement_of_aborted (under_way.Sent index abort) a is = absurd (cc)
-acknowledgement_of_aborted under_way.Idle a is = is
-acknowledgement_of_aborted under_way.Unwritten a is = is
-acknowledgement_of_aborted (under_way.Scalar old) a is = is
-acknowledgement_of_aborted (under_way.Element index old) a is = is
-acknowledgement_of_aborted under_way.Updated a is = is
+command_acknowledgement : (index : Option ℕ) (abort now : Abort) (a : Value)
+    → is_acknowledgement_of (under_way.Sent index abort) a ≡ true → is_acknowledgement_of (under_way.Sent index now) a ≡ true
+command_acknowledgement index abort now (values.Boolean false) is = refl
+command_acknowledgement index abort now a is = absurd (cc)
 
 -- of two records that a node gets the later one counts
 with_record-twice : (before : World) (path : List ℕ) (first second : NodeRecord)
@@ -287,24 +276,17 @@ handle_parts plan cells acts node handle within parts sent =
 pub abort_parts : (plan : List Site) (cells : List Value) (acts : List Act) (node : ℕ) → node < length plan
     → IsParts plan cells acts → IsParts plan cells (set acts node (aborted (act_of acts node)))
 abort_parts plan cells acts node within parts =
-    act_kept plan cells acts node (aborted act) parts (record {
-      state = old.state;
-      outcome = old.outcome;
-      failure = old.failure;
-      handle = ap (λ act. is_handle_of act (held cells (handle_cell plan node))) put ∙ handle_of_aborted act _ old.handle;
-      acknowledgement = ap (λ act. is_acknowledgement_of act (held cells (acknowledgement_cell plan node))) put
-          ∙ acknowledgement_of_aborted act _ old.acknowledgement;
-      act = ap (fits plan (site_in plan node).head.body) put ∙ aborted_fits plan (site_in plan node).head.body act old.act;
-    })
-  where
-    act : Act
-    act = act_of acts node
-
-    old : IsNode plan cells acts node
-    old = parts.nodes node within
-
-    put : act_of (set acts node (aborted act)) node ≡ aborted act
-    put = get_or-set_same acts node (aborted act) under_way.Idle (omega (arith, within, parts.all_acts))
+    let act : Act = act_of acts node in
+    let body : BodyData = (site_in plan node).head.body in
+    let handle : Value = held cells (handle_cell plan node) in
+    let acknowledgement : Value = held cells (acknowledgement_cell plan node) in
+    let old = parts.nodes node within in
+    act_kept plan cells acts node (aborted act) within parts
+    (of_aborted (λ act. is_handle_of act handle ≡ true)
+    (λ index abort. command_handle (under_way.Sent index abort) index aborts.Done handle) act old.handle)
+    (of_aborted (λ act. is_acknowledgement_of act acknowledgement ≡ true)
+    (λ index abort. command_acknowledgement index abort aborts.Done acknowledgement) act old.acknowledgement)
+    (of_aborted (λ act. fits plan body act ≡ true) (λ index abort. command_fits plan body index abort aborts.Done) act old.act)
 
 -- ---- an update's acknowledgement
 
@@ -324,7 +306,6 @@ pub acknowledged_parts : (plan : List Site) (cells : List Value) (acts : List Ac
     → IsParts plan cells acts → is_update (site_in plan node).head.body ≡ true
     → IsParts plan (set cells (acknowledgement_cell plan node) (values.Boolean true)) (set acts node under_way.Updated)
 acknowledged_parts plan cells acts node within parts update =
-    let now : IsParts plan cells (set acts node under_way.Updated) = act_kept plan cells acts node under_way.Updated parts own_act in
     cell_kept plan cells (set acts node under_way.Updated) node 4 value (omega arith) (omega arith) now (record {
       state = ap is_state (elsewhere cells cell (state_cell plan node) value (λ same. absurd (omega (arith, same)))) ∙ own_act.state;
       outcome = ap is_outcome (elsewhere cells cell (node_cell plan node + 1) value (λ same. absurd (omega (arith, same)))) ∙ own_act.outcome;
@@ -353,14 +334,11 @@ acknowledged_parts plan cells acts node within parts update =
     was act (values.Boolean true) is = refl
     was act a is = absurd (cc)
 
+    now : IsParts plan cells (set acts node under_way.Updated)
+    now = act_kept plan cells acts node under_way.Updated within parts
+        (update_handle plan (site_in plan node).head.body (act_of acts node) (held cells (handle_cell plan node)) update old.act old.handle)
+        (was (act_of acts node) (held cells (acknowledgement_cell plan node)) old.acknowledgement)
+        (update_fits plan (site_in plan node).head.body update)
+
     own_act : IsNode plan cells (set acts node under_way.Updated) node
-    own_act = record {
-      state = old.state;
-      outcome = old.outcome;
-      failure = old.failure;
-      handle = ap (λ act. is_handle_of act (held cells (handle_cell plan node))) put
-          ∙ update_handle plan (site_in plan node).head.body (act_of acts node) _ update old.act old.handle;
-      acknowledgement = ap (λ act. is_acknowledgement_of act (held cells (acknowledgement_cell plan node))) put
-          ∙ was (act_of acts node) _ old.acknowledgement;
-      act = ap (fits plan (site_in plan node).head.body) put ∙ update_fits plan (site_in plan node).head.body update;
-    }
+    own_act = now.nodes node within

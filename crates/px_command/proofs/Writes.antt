@@ -16,12 +16,12 @@ use Rattle.px_sem.specs.Events.{with_record, with_write, written_by}
 use Rattle.px_sem.specs.World as world
 use Rattle.px_sem.specs.World.{NodeRecord, LookState, Report, record_at}
 use Rattle.px_flat.specs.declared.act.Act.{Act}
-use Rattle.px_flat.specs.Layout.{Place, place_from, first_cell, node_cell, state_cell, variable_cells}
-use Rattle.px_flat.specs.Numbered.{held}
-use Rattle.px_flat.specs.Parts.{values_in, record_in, world_of, action_in, act_of, state_in, outcome_in, failure_in}
+use Rattle.px_flat.specs.Layout.{Place, place_from, first_cell, variable_cells}
+use Rattle.px_flat.specs.Parts.{values_in, record_in, world_of}
 use Rattle.px_flat.specs.Row.{site_in}
 use Rattle.px_flat.proofs.Changes.{values_in-same, world_of-changed}
 use Rattle.px_flat.proofs.Known.{IsSound}
+use Rattle.px_flat.proofs.NodeChanges.{variables_alone}
 use Rattle.px_flat.proofs.Sites.{found_site}
 use Rattle.px_flat.proofs.Worlds.{record_at-world_of}
 use Rattle.px_flat.proofs.Variables.{IsDeclared, place_behind, cells_within, nodes_apart}
@@ -98,38 +98,19 @@ values_in-write write (variable ∷ variables) cells from k slot at differ withi
 
 -- ---- the records of all nodes
 
--- a cell of a variable is none of those behind the variables
-kept : (plan : List Site) (cells : List Value) (cell behind : ℕ) (value : Value) → cell < variable_cells plan
-    → variable_cells plan ≤ behind → held (set cells cell value) behind ≡ held cells behind
-kept plan cells cell behind value variable past =
-    get_or-set_other cells cell behind value values.Unknown (λ is. absurd (omega (arith, variable, past, is)))
-
 others_stay : (plan : List Site) (cells : List Value) (acts : List Act) (node cell : ℕ) (value : Value) → node < length plan
     → first_cell plan node ≤ cell → cell < first_cell plan node + cells_of_site (site_in plan node)
     → (other : ℕ) → other < length plan → other ≢ node
     → record_in plan (set cells cell value) acts other ≡ record_in plan cells acts other
-others_stay plan cells acts node cell value within from to other there apart = λ i. record {
-  state = state_in (kept plan cells cell (state_cell plan other) value variable (omega arith) i);
-  outcome = outcome_in (kept plan cells cell (node_cell plan other + 1) value variable (omega arith) i);
-  failure = failure_in (kept plan cells cell (node_cell plan other + 2) value variable (omega arith) i);
-  variables = same i;
-  action = action_in (act_of acts other) (kept plan cells cell (node_cell plan other + 3) value variable (omega arith) i)
-      (kept plan cells cell (node_cell plan other + 4) value variable (omega arith) i);
-}
-  where
-    variable : cell < variable_cells plan
-    variable = omega (arith, to, cells_within plan node within)
-
-    own : List VariableData
-    own = (site_in plan other).head.variables
-
-    same : values_in own (drop (first_cell plan other) (set cells cell value))
-        ≡ values_in own (drop (first_cell plan other) cells)
-    same =
-        values_in-same own (first_cell plan other) (set cells cell value) cells (length-set cells cell value) (λ i few.
-        get_or-set_other cells cell (first_cell plan other + i) value values.Unknown (λ is.
-        nodes_apart plan other node i (cell - first_cell plan node) there within apart few (omega (arith, from, to))
-        (omega (arith, from, is))))
+others_stay plan cells acts node cell value within from to other there apart =
+    let own : List VariableData = (site_in plan other).head.variables in
+    let variable : cell < variable_cells plan = omega (arith, to, cells_within plan node within) in
+    variables_alone plan cells acts cell value other (values_in own (drop (first_cell plan other) cells))
+    (λ at few is. absurd (omega (arith, variable, is)))
+    (values_in-same own (first_cell plan other) (set cells cell value) cells (length-set cells cell value) (λ i few.
+    get_or-set_other cells cell (first_cell plan other + i) value values.Unknown (λ is.
+    nodes_apart plan other node i (cell - first_cell plan node) there within apart few (omega (arith, from, to))
+    (omega (arith, from, is)))))
 
 -- a cell of a variable that a node declares
 pub record IsCellOf (plan : List Site) (owner name : List ℕ) (place : world.Place) (cell : ℕ) : Type 0 where
@@ -184,14 +165,9 @@ variable_written plan cells reports acts owner name place cell value sound of =
     record_is : record_in plan (set cells cell value) acts node
         ≡ record (record_in plan cells acts node)
         { variables = map (written_by write) (zip own.head.variables (record_in plan cells acts node).variables) }
-    record_is = λ i. record {
-      state = state_in (kept plan cells cell (state_cell plan node) value variable (omega arith) i);
-      outcome = outcome_in (kept plan cells cell (node_cell plan node + 1) value variable (omega arith) i);
-      failure = failure_in (kept plan cells cell (node_cell plan node + 2) value variable (omega arith) i);
-      variables = variables_are i;
-      action = action_in (act_of acts node) (kept plan cells cell (node_cell plan node + 3) value variable (omega arith) i)
-          (kept plan cells cell (node_cell plan node + 4) value variable (omega arith) i);
-    }
+    record_is = variables_alone plan cells acts cell value node
+        (map (written_by write) (zip own.head.variables (record_in plan cells acts node).variables))
+        (λ at few is. absurd (omega (arith, variable, is))) variables_are
 
     at_own : world_of plan (set cells cell value) reports acts
         ≡ with_write plan (world_of plan cells reports acts) (Some write)

@@ -3,6 +3,7 @@ use Rattle.std.proofs.Common.{◌≡◌, Bool, ℕ, zero, suc, ◌+◌, ◌/◌,
 use Rattle.std.proofs.Math.Nat.{div-le_self}
 use Rattle.std.proofs.Math.Seq.{take-append_seam, drop-append_seam}
 use Rattle.std.proofs.lemmas.List.{length-map, length-take-le, length-drop, take-map, drop-map, take-append-drop}
+use Rattle.px_value.proofs.General.{only_one}
 use Rattle.px_core.specs.declared.expr.BinaryOp.{BinaryOp}
 use Rattle.px_core.specs.Expr.{Term, Binary}
 use Rattle.px_core.specs.Joined.{truth, Joins, joined_within, joined}
@@ -74,10 +75,9 @@ module _ (op : BinaryOp) (none : Bool) (say : List ℕ → Term) where
 
   pub one_of : (paths : List (List ℕ)) (path : List ℕ) → length paths < 2 → slice_index_or paths 0 path ≡ path → 1 ≤ length paths
       → joined op none (map say paths) ≡ say path
-  one_of [] path short is some = absurd (omega arith)
-  one_of (first ∷ []) path short is some =
-      sym (one_joined op none (say first ∷ []) (say first) (Joins.one_term (say first))) ∙ ap say is
-  one_of (first ∷ other ∷ paths) path short is some = absurd (omega arith)
+  one_of paths path short is some =
+      ap (λ paths. joined op none (map say paths)) (only_one paths path (omega (arith, short, some)) (sym is))
+      ∙ sym (one_joined op none (say path ∷ []) (say path) (Joins.one_term (say path)))
 
   -- two halves are joined
   pub halves_joined : (paths : List (List ℕ)) → 2 ≤ length paths

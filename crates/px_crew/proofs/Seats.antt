@@ -18,10 +18,11 @@ use Rattle.px_desk.specs.Seating.{Seating, Adds, HasMade}
 use Rattle.px_desk.specs.Seating.{IsLooked as HasLooked}
 use Rattle.px_desk.specs.declared.listing.Listing.{Listing}
 use Rattle.px_desk.specs.declared.listing.Listing.TheVariants as listings
+use Rattle.px_desk.proofs.Lists.{added_or_looked}
 use Rattle.px_desk.proofs.Shown.{looked_number, added_number}
 use Rattle.px_crew.specs.Board.{IsLooked, IsAnswered, IsBroken, Posts}
 use Rattle.px_crew.specs.Seat.{own, entry_in, board_of, HasGoneOn}
-use Rattle.px_crew.proofs.Listings.{log_in-append, log_in-items-append, failed_in-answered, failed_in-behind, clear_front, clear_before, own-append, own_stays, clear_own}
+use Rattle.px_crew.proofs.Listings.{log_in-append, log_in-items-append, failed_in-answered, failed_in-behind, clear_front, clear_before, own-append, own_yes, own_stays, clear_own}
 
 -- ---- seats that have seen more
 
@@ -32,10 +33,6 @@ pub gone_then : {old mid new : Seating} → HasGoneOn old mid → HasGoneOn mid 
 gone_then {old} {mid} {new} a b = record { number = b.number ∙ a.number; seen = front_trans old.seen mid.seen new.seen a.seen b.seen; made = b.made }
 
 -- ---- what a call does to a board
-
--- an entry that carries a number is one of those that carry it
-own_one : (number : ℕ) (item : Listing) → own number (stamped (Some number) item ∷ []) ≡ item ∷ []
-own_one number item = rw (eq-eqb number number refl) refl
 
 module _ (start : Start) (old new : Seating) (mine : HasMade old) (made : HasMade new) where
   -- ---- the seat has looked
@@ -70,12 +67,6 @@ module _ (start : Start) (old new : Seating) (mine : HasMade old) (made : HasMad
   -- ---- it has added an entry
 
   module _ (item : Listing) (adds : Adds old new item) where
-    found : List (Stamped Listing)
-    found = adds.found
-
-    others : List (Stamped Listing)
-    others = adds.finds.begins.0
-
     added_seen : new.seen ≡ adds.found ++ stamped (Some old.number) item ∷ []
     added_seen = ap (λ (s : Seating). s.seen) adds.same
 
@@ -95,7 +86,8 @@ module _ (start : Start) (old new : Seating) (mine : HasMade old) (made : HasMad
         ap (λ (number : ℕ). own number new.seen) (added_number adds) ∙ ap (own old.number) added_seen
         ∙ own-append old.number adds.found (stamped (Some old.number) item ∷ [])
         ∙ ap (λ (list : List Listing). list ++ own old.number (stamped (Some old.number) item ∷ [])) all_found
-        ∙ ap (λ (list : List Listing). own old.number old.seen ++ list) (own_one old.number item)
+        ∙ ap (λ (list : List Listing). own old.number old.seen ++ list)
+        (own_yes old.number (stamped (Some old.number) item) [] (eq-eqb old.number old.number refl))
 
     added_items : items new.seen ≡ items adds.found ++ item ∷ []
     added_items = ap items added_seen ∙ map-append (λ (e : Stamped Listing). e.item) adds.found (stamped (Some old.number) item ∷ [])
@@ -176,10 +168,5 @@ module _ (start : Start) (old new : Seating) (mine : HasMade old) (made : HasMad
 
   pub posts_on : (entry : Entry) (answer : Result Receipt PostFault) → Answers start (Adds old new) (HasLooked old new) (items new.seen) entry answer
       → HasGoneOn old new
-  posts_on entry (Ok receipt) h = added_on _ h.0
-  posts_on entry (Err faults.PlanFinished) h = added_on _ h
-  posts_on entry (Err (faults.Full limit)) h = added_on _ h.0
-  posts_on entry (Err faults.Runaway) h = added_on _ h
-  posts_on entry (Err faults.DiskFault) h = added_on _ h.1
-  posts_on entry (Err (faults.Closed count)) h = looked_on h.0
-  posts_on entry (Err faults.NoMemory) h = looked_on h.0
+  posts_on entry answer =
+      added_or_looked start entry (Adds old new) (HasLooked old new) (items new.seen) answer (λ item listed. added_on item) (λ unlisted. looked_on)

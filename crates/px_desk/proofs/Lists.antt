@@ -118,16 +118,22 @@ module _ {S D : Type 0} (runs : Stepper.Ghosts S) (members : Disk.Ghosts D) (old
 -- ---- answers, as they are told of a list and of a seat
 
 module _ (start : Start) (entry : Entry) where
-  -- and one that isn't tells of none
+  -- an answer that is listed adds an item, and one that isn't has only looked
+  pub added_or_looked : {P : Type 0} (adds : Listing → Type 0) (looks : Type 0) (after : List Listing) (answer : Result Receipt PostFault)
+      → ((item : Listing) → is_listed answer ≡ true → adds item → P) → (is_listed answer ≡ false → looks → P)
+      → Answers start adds looks after entry answer → P
+  added_or_looked adds looks after (Ok receipt) added looked h = added _ refl h.0
+  added_or_looked adds looks after (Err faults.PlanFinished) added looked h = added _ refl h
+  added_or_looked adds looks after (Err (faults.Full limit)) added looked h = added _ refl h.0
+  added_or_looked adds looks after (Err faults.Runaway) added looked h = added _ refl h
+  added_or_looked adds looks after (Err faults.DiskFault) added looked h = added _ refl h.1
+  added_or_looked adds looks after (Err (faults.Closed count)) added looked h = looked refl h.0
+  added_or_looked adds looks after (Err faults.NoMemory) added looked h = looked refl h.0
+
   pub none_more : (old new after : List Listing) (answer : Result Receipt PostFault) → is_listed answer ≡ false
       → Answers start (λ item. new ≡ old ++ item ∷ []) (new ≡ old) after entry answer → new ≡ old
-  none_more old new after (Ok receipt) is h = absurd (cc)
-  none_more old new after (Err faults.PlanFinished) is h = absurd (cc)
-  none_more old new after (Err (faults.Full limit)) is h = absurd (cc)
-  none_more old new after (Err faults.Runaway) is h = absurd (cc)
-  none_more old new after (Err faults.DiskFault) is h = absurd (cc)
-  none_more old new after (Err (faults.Closed count)) is h = h.0
-  none_more old new after (Err faults.NoMemory) is h = h.0
+  none_more old new after answer is =
+      added_or_looked (λ item. new ≡ old ++ item ∷ []) (new ≡ old) after answer (λ item listed more. absurd (cc (sym is ∙ listed))) (λ unlisted same. same)
 
   pub answers_told : (adds adds' : Listing → Type 0) (looks looks' : Type 0) (after after' : List Listing) (answer : Result Receipt PostFault)
       → ((item : Listing) → is_listed answer ≡ true → adds item → adds' item) → (is_listed answer ≡ false → looks') → after ≡ after'

@@ -1,28 +1,23 @@
 -- Two seats of a desk, one of which has posted and the other counted.
-use Rattle.std.proofs.Common.{◌≡◌, ◌≢◌, ℕ, zero, suc, List, [], ◌∷◌, map, length, Result, Ok, Err, refl, ap, ◌∙◌, arith}
+use Rattle.std.proofs.Common.{◌≡◌, ◌≢◌, ℕ, zero, suc, List, [], ◌∷◌, map, length, Result, refl, ap, ◌∙◌, arith}
 use Rattle.std.specs.Prelude.{slice_index_or, slice_set}
 use Rattle.std.specs.List.{All, range_with_len}
 use Rattle.std.proofs.lemmas.List.Elements.{All-cons, All-nil}
 use Rattle.px_event.specs.declared.entry.Entry.{Entry}
 use Rattle.px_exec.specs.declared.fault.PostFault.{PostFault}
-use Rattle.px_exec.specs.declared.fault.PostFault.TheVariants as faults
 use Rattle.px_exec.specs.declared.receipt.Receipt.{Receipt}
 use Rattle.px_desk.specs.Listing.{Start, Answers}
 use Rattle.px_desk.specs.Seating.{Seating, newcomer, Adds, IsLooked, AreAll}
 use Rattle.px_desk.specs.declared.listing.Listing.{Listing}
 use Rattle.px_desk.proofs.Dealing.{seats_count}
+use Rattle.px_desk.proofs.Lists.{added_or_looked}
 use Rattle.px_desk.proofs.Shown.{added_number, looked_number}
 
 -- a post leaves the seat its number
 pub posted : (start : Start) (old new : Seating) (list : List Listing) (entry : Entry) (answer : Result Receipt PostFault)
     → Answers start (Adds old new) (IsLooked old new) list entry answer → new.number ≡ old.number
-posted start old new list entry (Ok receipt) h = added_number h.0
-posted start old new list entry (Err faults.PlanFinished) h = added_number h
-posted start old new list entry (Err (faults.Full limit)) h = added_number h.0
-posted start old new list entry (Err faults.Runaway) h = added_number h
-posted start old new list entry (Err faults.DiskFault) h = added_number h.1
-posted start old new list entry (Err (faults.Closed count)) h = looked_number h.0
-posted start old new list entry (Err faults.NoMemory) h = looked_number h.0
+posted start old new list entry answer =
+    added_or_looked start entry (Adds old new) (IsLooked old new) list answer (λ item listed adds. added_number adds) (λ unlisted looked. looked_number looked)
 
 pub both : {S : Type 0} (P : S → Type 0) (seats : List S) (a b : S) → length seats ≡ 2 → P a → P b → All P (slice_set (slice_set seats 0 a) 1 b)
 both P [] a b two at_a at_b k d within = absurd (omega arith)

@@ -77,13 +77,17 @@ two_back = record { back = λ bytes len fits. be_bytes_2 bytes (big_number 2 byt
 pub four_back : SpellsBack 4
 four_back = record { back = λ bytes len fits. be_bytes_4 bytes (big_number 4 bytes) len fits (omega arith) }
 
+-- what stands at the front is the spelling of the number that it reads as
+pub front_spelled : (n : ℕ) (spells : SpellsBack n) (bytes : List ℕ) → IsBytes bytes → n ≤ length bytes → big_bytes n (big_number n bytes) ≡ take n bytes
+front_spelled n spells bytes fits long =
+    ap (λ (y : ℕ). big_bytes n y) (sym (big_from-take 0 n n bytes (omega arith)))
+    ∙ spells.back (take n bytes) (omega (arith, long, length-take n bytes)) (IsBytes-take n bytes fits)
+
 pub number_takes : (n : ℕ) (spells : SpellsBack n) (bytes : List ℕ) (x : ℕ) (rest : List ℕ) → IsBytes bytes → number_at n bytes ≡ Some (x, rest) → Takes bytes (big_bytes n x) rest × (x < 256 ^ n)
 number_takes n spells bytes x rest fits e =
     let g = guard_some (ltb (length bytes) n) (big_number n bytes, drop n bytes) (x, rest) e in
     let long : n ≤ length bytes = ltb-false _ _ g.0 in
-    let len : length (take n bytes) ≡ n = omega (arith, length-take n bytes) in
-    let front : big_bytes n (big_number n bytes) ≡ take n bytes =
-    ap (λ (y : ℕ). big_bytes n y) (sym (big_from-take 0 n n bytes (omega arith))) ∙ spells.back (take n bytes) len (IsBytes-take n bytes fits) in
+    let front : big_bytes n (big_number n bytes) ≡ take n bytes = front_spelled n spells bytes fits long in
     subst (λ (p : ℕ × List ℕ). Takes bytes (big_bytes n p.0) p.1 × (p.0 < 256 ^ n)) g.1
     (record { parts = rw front (sym (take-append-drop n bytes)); rest_fits = IsBytes-drop n bytes fits }, big_from-lt 0 n bytes fits)
 

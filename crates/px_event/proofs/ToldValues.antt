@@ -1,12 +1,13 @@
 -- A value that is read is the value that was spelled, and one that was spelled is read again.
-use Rattle.std.proofs.Common.{◌≡◌, ℕ, zero, suc, ◌*◌, ◌^◌, ◌<◌, ◌≤◌, Bool, true, false, List, [], ◌∷◌, ◌++◌, length, Some, refl, sym, ap, subst, ◌∙◌, append_assoc, arith}
+use Rattle.std.proofs.Common.{◌≡◌, ℕ, zero, suc, ◌*◌, ◌^◌, ◌<◌, ◌≤◌, Bool, true, false, List, [], ◌∷◌, ◌++◌, length, get_or, Some, refl, sym, ap, subst, ◌∙◌, append_assoc, arith}
 use Rattle.std.specs.Prelude.{ℤ, ◌&&◌}
 use Rattle.std.specs.List.{list_all, flat_map}
 use Rattle.std.specs.Int.{w32, cast_signed, cast_unsigned}
 use Rattle.std.specs.Str.{is_utf8}
 use Rattle.std.proofs.lemmas.Bool.{and_parts, and_from, leb-true}
 use Rattle.std.proofs.lemmas.Int.{to_z-of_z, of_z-to_z}
-use Rattle.std.proofs.lemmas.List.{length-append}
+use Rattle.std.proofs.lemmas.List.Concat.{length-flat_map}
+use Rattle.std.proofs.lemmas.List.Sums.{sum_by-le, AllPass-from_list_all}
 use Rattle.std.proofs.lemmas.Option.{same_Some}
 use mir.ValLaws.{of_z_fits, to_z-Fits}
 use Rattle.byteorder.specs.Endian.{big_bytes}
@@ -180,9 +181,10 @@ value_short (values.Failure failure) fit = absurd cc
 value_short (values.Handle handle) fit = absurd cc
 
 pub arguments_short : (args : List Value) → list_all is_plain args ≡ true → length (flat_map value_bytes args) ≤ 1027 * length args
-arguments_short [] plain = omega arith
-arguments_short (value ∷ args) plain =
-    let both = and_parts (is_plain value) (list_all is_plain args) plain in
-    let one = value_short value (plain_known value both.0).0 in
-    let others = arguments_short args both.1 in
-    omega (arith, length-append (value_bytes value) (flat_map value_bytes args))
+arguments_short args plain =
+    omega (
+      arith,
+      length-flat_map value_bytes args,
+      sum_by-le (λ (value : Value). length (value_bytes value)) 1027 args
+          (λ k d inside. value_short (get_or args k d) (plain_known (get_or args k d) (AllPass-from_list_all is_plain args plain k d inside)).0),
+    )

@@ -1,7 +1,6 @@
 -- What each image since some moment stands for, from one post to the next.
-use Rattle.std.proofs.Common.{◌≡◌, inl, ⊎_elim, ℕ, List, [], ◌∷◌, ◌++◌, Some, length, refl, sym, ◌∙◌, ap, subst, append_assoc, append-nil}
+use Rattle.std.proofs.Common.{◌≡◌, inl, ⊎_elim, ℕ, List, [], ◌∷◌, ◌++◌, Some, refl, sym, ◌∙◌, ap, subst, append_assoc, append-nil}
 use Rattle.std.proofs.Math.Seq.{take-length}
-use Rattle.std.proofs.lemmas.List.{take_all}
 use Rattle.px_event.specs.declared.entry.Entry.{Entry}
 use Rattle.px_event.specs.declared.named.NamedEntry.{NamedEntry}
 use Rattle.px_journal.specs.Crash.{WithOrWithout, WithOrWithoutAs, LeavesOnly}
@@ -9,25 +8,24 @@ use Rattle.px_journal.specs.Journal.{IsReady, IsReadyAs, IsSynced, with_name}
 use Rattle.px_journal.specs.Layout.{Stands, StandsAs}
 use Rattle.px_journal.specs.declared.journal.Journal.{Journal}
 use Rattle.px_journal.proofs.Going.{goes_none, goes_told}
-use Rattle.px_journal.proofs.Moments.{leaves_more, leaves_on}
+use Rattle.px_journal.proofs.Moments.{elapses_none, leaves_both, left_before}
 use Rattle.px_journal.proofs.Ready.{ready_stands, ready_synced}
-use Rattle.px_ports.specs.Moment.{Images, LeftSince}
+use Rattle.px_ports.specs.Moment.{Images}
 use Rattle.px_ports.specs.declared.disk.Disk
 use Rattle.px_ports.specs.declared.moment.Moment.{Moment}
 use Rattle.px_exec.specs.Crash.{AddsAtMost}
 use Rattle.px_exec.specs.Executive.{StandsWithin}
 
--- where no moment passes, an image since then is one now
-pub left_now : (images : Images) (moments : List Moment) (image : List ℕ) → LeftSince images moments (length moments) image → images moments image
-left_now images moments image left = subst (λ (ms : List Moment). images ms image) (take_all (left.0) moments (left.1)) (left.3)
+-- where no moment passes, what each image now is, each since then is
+pub leaves_now : (images : Images) (moments : List Moment) (left : List ℕ → Type 0) → ((image : List ℕ) → images moments image → left image)
+    → LeavesOnly images left moments moments
+leaves_now images moments left now = record { grows = take-length moments; each = λ image since. now image (left_before images moments moments (elapses_none images moments) image since) }
 
 -- what a synced disk leaves at a crash now
 synced_leaves : {D : Type 0} (members : Disk.Ghosts D) (disk : D) (told : List ℕ) (left : List ℕ → Type 0) → IsSynced members disk
     → members.content disk ≡ Some told → left told → LeavesOnly members.images left (members.moments disk) (members.moments disk)
-synced_leaves members disk told left synced is now = record {
-  grows = take-length (members.moments disk);
-  each = λ image since. subst left (sym (synced told is image (left_now members.images (members.moments disk) image since))) now;
-}
+synced_leaves members disk told left synced is now =
+    leaves_now members.images (members.moments disk) left (λ image here. subst left (sym (synced told is image here)) now)
 
 -- what a ready journal leaves at a crash now
 pub ready_leaves : {D : Type 0} (members : Disk.Ghosts D) (journal : Journal D) (text told : List ℕ) (history : List Entry) (left : List ℕ → Type 0)
@@ -111,8 +109,5 @@ pub within_more : (images : Images) (text : List ℕ) (first history since : Lis
     → LeavesOnly images (StandsWithin text first history) old mid → LeavesOnly images (WithOrWithout text history entry) mid new
     → LeavesOnly images (StandsWithin text first (history ++ entry ∷ [])) old new
 within_more images text first history since entry old mid new grown before after =
-    leaves_on images (StandsWithin text first (history ++ entry ∷ [])) old mid new
-    (leaves_more images (StandsWithin text first history) (StandsWithin text first (history ++ entry ∷ [])) old mid
-    (within_longer text first history entry) before)
-    (leaves_more images (WithOrWithout text history entry) (StandsWithin text first (history ++ entry ∷ [])) mid new
-    (λ image. either_within text first history since entry image grown) after)
+    leaves_both images (StandsWithin text first history) (WithOrWithout text history entry) (StandsWithin text first (history ++ entry ∷ [])) old mid new
+    (within_longer text first history entry) (λ image. either_within text first history since entry image grown) before after

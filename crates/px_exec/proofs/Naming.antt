@@ -10,7 +10,7 @@ use Rattle.px_journal.specs.Journal.{IsReadyAs, name_given, with_name}
 use Rattle.px_journal.specs.Layout.{StandsAs}
 use Rattle.px_journal.specs.declared.journal.Journal.{Journal}
 use Rattle.px_journal.specs.declared.version.Version.{Version}
-use Rattle.px_journal.proofs.Moments.{leaves_more, leaves_on}
+use Rattle.px_journal.proofs.Moments.{leaves_both}
 use Rattle.px_ports.specs.Moment.{Images}
 use Rattle.px_ports.specs.declared.disk.Disk
 use Rattle.px_ports.specs.declared.moment.Moment.{Moment}
@@ -47,11 +47,9 @@ module _ (images : Images) (version : Version) (text : List ℕ) (found since : 
   named_more : (old mid new : List Moment) → LeavesOnly images (StandsNamed version text found since) old mid
       → LeavesOnly images (WithOrWithoutAs version text (found ++ since) next) mid new
       → LeavesOnly images (StandsNamed version text found (since ++ next ∷ [])) old new
-  named_more old mid new before after =
-      leaves_on images (StandsNamed version text found (since ++ next ∷ [])) old mid new
-      (leaves_more images (StandsNamed version text found since) (StandsNamed version text found (since ++ next ∷ [])) old mid
-      (longer version text found since next) before)
-      (leaves_more images (WithOrWithoutAs version text (found ++ since) next) (StandsNamed version text found (since ++ next ∷ [])) mid new either after)
+  named_more old mid new =
+      leaves_both images (StandsNamed version text found since) (WithOrWithoutAs version text (found ++ since) next)
+      (StandsNamed version text found (since ++ next ∷ [])) old mid new (longer version text found since next) either
 
 module _ {S D : Type 0} (members : Disk.Ghosts D) where
   -- ---- before the first post

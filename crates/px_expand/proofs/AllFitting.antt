@@ -19,7 +19,7 @@ use Rattle.px_syntax.specs.Scope.{Head, own_action, head_of, branch_child}
 use Rattle.px_core.specs.declared.expr.BinaryOp.TheVariants.{And}
 use Rattle.px_core.specs.declared.node.Kind.TheVariants as kinds
 use Rattle.px_core.specs.Expr.{Binary}
-use Rattle.px_core.specs.Fit.{declares_in, has_site, is_there, is_command}
+use Rattle.px_core.specs.Fit.{declares_in, has_site, is_there}
 use Rattle.px_core.specs.Plan.{Site, Tree, NoNode, Nothing, path_under, sites_under, sites, is_same}
 use Rattle.px_core.proofs.Paths.{same-self}
 use Rattle.px_forms.specs.Adding.{Added, nothing}
@@ -38,12 +38,12 @@ use Rattle.px_scope.specs.Scope.{Scope}
 use Rattle.px_expand.proofs.Inside.{leaf_fits, shaped_fits, block_seen, actions_there, children_there}
 use Rattle.px_expand.proofs.Declaring.{each_item_none}
 use Rattle.px_expand.proofs.Fitting.{at, LabelIs, label_is, AllFit, node_is, node_fits, nothing_said, nothing_added, assignment_fits, not_found_speaks, before_fits, KeepsTest, where_found_speaks, where_not_found_speaks, tested_keeps, tested_fits, entered_seen, MayBe, follows_speaks}
-use Rattle.px_expand.proofs.Frames.{LabelNamed, NamedHeads, block_command}
+use Rattle.px_expand.proofs.Frames.{LabelNamed, NamedHeads, head_within, block_command}
 use Rattle.px_expand.proofs.Mentions.{scalar_is, judged_there}
 use Rattle.px_expand.proofs.Seen.{HasHead, HasVariable, IsSeen, seen_further}
 use Rattle.px_expand.proofs.Sound.{view, both_labels, own_labels, block_named, body_named, branch_named, if_named}
 use Rattle.px_expand.proofs.Speaking.{both_speak, done_speaks, finished_speaks, are_nodes, none_speaks, GivenSpeaks, AddedSpeaks}
-use Rattle.px_expand.proofs.Within.{IsWithin, own_within, children_within, others_within, alone_within, within_itself}
+use Rattle.px_expand.proofs.Within.{IsWithin, own_within, named_within, children_within, others_within, alone_within, within_itself}
 
 none_declares : (whole : List Site) (path text : List ℕ) (as_array : Bool) → declares_in as_array text [] ≡ true
     → HasVariable whole path text as_array
@@ -77,19 +77,11 @@ module _ (whole : List Site) where
       (head_of label (seen.is_command_block block)).label (named label unlabelled)
   branch_named_so path unlabelled above scope added None block rest none labels within = none
   branch_named_so path unlabelled above scope added (Some label) block rest none labels within =
-      let here : Place = child path label.name added in
-      let node = block_core scope here block in
-      let own = own_within (path ∷ above) node.head node.children rest whole within in
-      let is = block_named scope here block in (
+      let here : Place = child path label.name added in (
         refl,
         (label_is (Some label) unlabelled labels none).1,
-        record {
-          node = subst (λ text. has_site (λ site. true) (below path text) whole ≡ true) is (own (λ site. true) refl);
-          command =
-              λ call.
-              subst (λ text. has_site (λ site. is_command site.head.kind) (below path text) whole ≡ true) is
-              (own (λ site. is_command site.head.kind) (block_command scope here block call));
-        },
+        head_within whole (path ∷ above) (block_core scope here block) rest label.name (Some label)
+            (seen.is_command_block block) within (block_named scope here block) (block_command scope here block),
       )
 
   branch_heads : (path unlabelled : List ℕ) (above : List (List ℕ)) (scope : Scope) (added : Added) (branch : BranchTree)
@@ -113,8 +105,8 @@ module _ (whole : List Site) where
   branch_there path unlabelled above scope added branch rest within =
       let here : Place = child path (branch_name unlabelled branch) added in
       let node = branch_core scope here branch in
-      subst (λ text. has_site (λ site. true) (below path text) whole ≡ true) (branch_named scope here branch)
-      (own_within (path ∷ above) node.head node.children rest whole within (λ site. true) refl)
+      named_within (path ∷ above) node.head node.children rest whole within (branch_name unlabelled branch)
+      (branch_named scope here branch) (λ site. true) refl
 
   -- ---- what stands after `else`
 
@@ -208,8 +200,8 @@ module _ (whole : List Site) where
         })
         faults.0 own.1 (alone_within (path ∷ above) node.head node.children others whole within))
         (actions_fits above path entered inner form (Some (below path name)) (suc place) rest all
-        (subst (λ text. has_site (λ site. true) (below path text) whole ≡ true) (body_named inner here body)
-        (own_within (path ∷ above) node.head node.children others whole within (λ site. true) refl))
+        (named_within (path ∷ above) node.head node.children others whole within name (body_named inner here body)
+        (λ site. true) refl)
         faults.1 parts.1 (others_within (path ∷ above) node.head node.children others whole within))
 
     body_fits : (above : List (List ℕ)) (name : List ℕ) (added : Added) (outer : seen.Scope) (label : Option Identifier)
@@ -228,17 +220,15 @@ module _ (whole : List Site) where
         place.more (none_speaks (is_there whole)) none within
     body_fits above name added outer label scope (CallInto target call) place none labels within =
         let node = body_core scope (at above name added) (CallInto target call) in
-        let own = own_within above node.head NoNode NoNode whole within in
         leaf_fits whole above name added none_given default_priority [] _ _ (CallInto target call) refl
         (simple_seen above name added outer label true scope place.seen place.named
-        (record { node = own (λ site. true) refl; command = λ is. own (λ site. is_command site.head.kind) refl }))
+        (head_within whole above node NoNode name label true within refl (λ is. refl)))
         place.more (none_speaks (is_there whole)) none within
     body_fits above name added outer label scope (Call call) place none labels within =
         let node = body_core scope (at above name added) (Call call) in
-        let own = own_within above node.head NoNode NoNode whole within in
         leaf_fits whole above name added none_given default_priority [] _ _ (Call call) refl
         (simple_seen above name added outer label true scope place.seen place.named
-        (record { node = own (λ site. true) refl; command = λ is. own (λ site. is_command site.head.kind) refl }))
+        (head_within whole above node NoNode name label true within refl (λ is. refl)))
         place.more (none_speaks (is_there whole)) none within
     body_fits above name added outer label scope (Update token pairs) place none labels within =
         let node = body_core scope (at above name added) (Update token pairs) in
@@ -388,9 +378,8 @@ module _ (whole : List Site) where
                 there =
                     and_from _ _
                     (node_is whole (below path else_name)
-                    (subst (λ text. has_site (λ site. true) (below path text) whole ≡ true)
-                    (if_named inner here (chain_core (else_core otherwise) others) guarded)
-                    (own_within (path ∷ above) node.head node.children NoNode whole within (λ site. true) refl))) refl;
+                    (named_within (path ∷ above) node.head node.children NoNode whole within else_name
+                    (if_named inner here (chain_core (else_core otherwise) others) guarded) (λ site. true) refl)) refl;
               };
           fits =
               λ above inner path all keeps within.

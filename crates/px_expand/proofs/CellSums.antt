@@ -2,9 +2,9 @@
 use Rattle.std.proofs.Common.{◌≡◌, ℕ, suc, ◌+◌, ◌≤◌, Bool, cond, List, [], ◌∷◌, ◌++◌, map, Option, Some, None, refl, sym, ap, ◌∙◌, inl, inr, arith}
 use Rattle.std.specs.Prelude.{nat_lt, sum}
 use Rattle.std.specs.List.{flat_map, sum_by}
-use Rattle.std.specs.Option.{unwrap_or}
 use Rattle.std.proofs.lemmas.Bool.{ltb-false, cases_Bool}
 use Rattle.std.proofs.lemmas.List.{map-append}
+use Rattle.std.proofs.lemmas.List.Folds.{fold-map}
 use Rattle.std.proofs.lemmas.List.Sums.{sum_by-append, sum_by-cons}
 use Rattle.px_syntax.specs.declared.fault.FaultKind.TheVariants.{TooLarge}
 use Rattle.px_syntax.specs.declared.word.BlockForm.{BlockForm}
@@ -13,12 +13,11 @@ use Rattle.px_syntax.specs.Block as text
 use Rattle.px_syntax.specs.Block.{ItemData, Variables, Conditions, Priority, BlockTree, Braces, Actions, NoActions, More, ActionTree, Labelled, BranchTree, Branch, GuardedTree, Guarded, ElseIfs, NoElseIfs, ElseIf, ElseTree, NoElse, Else, BodyTree, Inner, Assign, CallInto, Call, Update, If, While, For}
 use Rattle.px_syntax.specs.Fault.{fault_at}
 use Rattle.px_syntax.specs.Plan.{PlanTree}
-use Rattle.px_syntax.specs.PlanFaults.{Cells, item_cells, block_cells, actions_cells, action_cells, body_cells, guarded_cells, else_if_cells, else_cells, branch_cells, passing_fault}
+use Rattle.px_syntax.specs.PlanFaults.{Cells, variable_cells, item_cells, block_cells, actions_cells, action_cells, body_cells, guarded_cells, else_if_cells, else_cells, branch_cells, passing_fault}
 use Rattle.px_value.specs.Path.{below}
 use Rattle.px_core.specs.Fit.{cells_of, cells_of_site, cells_of_all}
 use Rattle.px_core.specs.Plan as plan
 use Rattle.px_core.specs.Plan.{VariableData, Site, Tree, NoNode, path_under, sites_under}
-use Rattle.px_core.proofs.Cells.{cells_are}
 use Rattle.px_expand.specs.Core.{Otherwise, name_of, branch_name, follows, shaped, block_seen, block_scope, if_scope, while_scope, for_scope, root_place, block_core, actions_core, action_core, body_core, if_core, chain_core, else_core, branch_core, core}
 use Rattle.px_forms.specs.Forms.{where_found, where_not_found, loop_path}
 use Rattle.px_scope.specs.Items.{variable_of, variables_in, variables_of}
@@ -73,12 +72,10 @@ few_cells before (first ∷ rest) none few =
 
 listed_cells : (of_type : TypeName) (variables : List text.VariableData)
     → cells_in_variables (map (variable_of of_type) variables) ≡ total (item_cells (Variables of_type variables))
-listed_cells of_type [] = refl
-listed_cells of_type (first ∷ rest) =
-    let own = sum_by-cons (λ number. number) (cells_of (variable_of of_type first)) (map cells_of (map (variable_of of_type) rest)) in
-    let one : cells_of (variable_of of_type first) ≡ unwrap_or first.size 1 = cells_are (variable_of of_type first) in
-    let head : Cells = record { token = first.name.token; count = unwrap_or first.size 1 } in
-    omega (arith, own, one, sum_by-cons count head (item_cells (Variables of_type rest)), listed_cells of_type rest)
+listed_cells of_type variables =
+    fold-map (λ (so_far cells : ℕ). so_far + cells) cells_of 0 (map (variable_of of_type) variables)
+    ∙ fold-map (λ (so_far : ℕ) (variable : VariableData). so_far + cells_of variable) (variable_of of_type) 0 variables
+    ∙ sym (fold-map (λ (so_far : ℕ) (cells : Cells). so_far + cells.count) variable_cells 0 variables)
 
 item_sum : (item : ItemData) → cells_in_variables (variables_in item) ≡ total (item_cells item)
 item_sum (Variables of_type variables) = listed_cells of_type variables

@@ -26,7 +26,7 @@ use Rattle.px_scope.specs.Items.{var_kind, variable_of, variables_in, variables_
 use Rattle.px_scope.specs.Resolving.{literal_value}
 use Rattle.px_expand.specs.Typed.{is_of_kind, is_typed}
 use Rattle.px_expand.proofs.Apart.{names, all_apart}
-use Rattle.px_expand.proofs.Faultless.{where_none}
+use Rattle.px_expand.proofs.Faultless.{all_pass, where_none}
 
 -- ---- one variable
 
@@ -45,10 +45,10 @@ literal_typed types.String (literals.Text content) token none = refl
 listed_typed : (of_type : TypeName) (values : List ListedLiteral)
     → flat_map (λ listed. literal_fault (named_type of_type) listed.value listed.token) values ≡ []
     → list_all (is_of_kind (var_kind of_type)) (map (λ listed. literal_value listed.value) values) ≡ true
-listed_typed of_type [] none = refl
-listed_typed of_type (first ∷ rest) none =
-    let parts = neither (literal_fault (named_type of_type) first.value first.token) _ none in
-    and_from _ _ (literal_typed of_type first.value first.token parts.0) (listed_typed of_type rest parts.1)
+listed_typed of_type =
+    all_pass (λ (listed : ListedLiteral). literal_fault (named_type of_type) listed.value listed.token)
+    (λ (listed : ListedLiteral). literal_value listed.value) (is_of_kind (var_kind of_type))
+    (λ listed. literal_typed of_type listed.value listed.token)
 
 -- a variable has a right size and as many values at most as cells, which are of its type
 record IsRight (variable : VariableData) : Type 0 where
@@ -119,12 +119,14 @@ both_right front back first rest = record {
 
 variables_right : (of_type : TypeName) (variables : List text.VariableData)
     → flat_map (variable_faults (named_type of_type)) variables ≡ [] → AreRight (map (variable_of of_type) variables)
-variables_right of_type [] none = record { cells = refl; values = refl }
-variables_right of_type (first ∷ rest) none =
-    let parts = neither (variable_faults (named_type of_type) first) _ none in
-    let own = variable_right of_type first parts.0 in
-    let others = variables_right of_type rest parts.1 in
-    record { cells = and_from _ _ own.cells others.cells; values = and_from _ _ own.values others.values }
+variables_right of_type variables none = record {
+  cells =
+      all_pass (variable_faults (named_type of_type)) (variable_of of_type) has_right_cells
+      (λ variable none. (variable_right of_type variable none).cells) variables none;
+  values =
+      all_pass (variable_faults (named_type of_type)) (variable_of of_type) is_typed
+      (λ variable none. (variable_right of_type variable none).values) variables none;
+}
 
 item_right : (scope : seen.Scope) (item : ItemData) → item_faults scope item ≡ [] → AreRight (variables_in item)
 item_right scope (Variables of_type variables) none = variables_right of_type variables none

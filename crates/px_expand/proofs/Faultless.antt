@@ -1,6 +1,7 @@
 -- What a tree without faults has none of.
-use Rattle.std.proofs.Common.{◌≡◌, ℕ, Bool, true, false, List, [], ◌∷◌, ◌++◌, cond, refl}
-use Rattle.std.specs.List.{fold, flat_map}
+use Rattle.std.proofs.Common.{◌≡◌, ℕ, Bool, true, false, List, [], ◌∷◌, ◌++◌, map, cond, refl}
+use Rattle.std.specs.List.{fold, flat_map, list_all}
+use Rattle.std.proofs.lemmas.Bool.{and_from}
 use Rattle.std.proofs.lemmas.List.Folds.{fold_along}
 use Rattle.px_value.proofs.General.{neither}
 use Rattle.px_syntax.specs.declared.fault.FaultKind.{FaultKind}
@@ -17,6 +18,15 @@ where_none false kind token none = refl
 
 pub fault_some : (kind : FaultKind) (token : ℕ) → fault_at kind token ≡ [] → ⊥
 fault_some kind token none = cc
+
+-- what is made of parts passes a test where each part without faults does
+pub all_pass : {X Z : Type 0} (faults_of : X → List Fault) (made : X → Z) (test : Z → Bool)
+    → ((x : X) → faults_of x ≡ [] → test (made x) ≡ true)
+    → (xs : List X) → flat_map faults_of xs ≡ [] → list_all test (map made xs) ≡ true
+all_pass faults_of made test each [] none = refl
+all_pass faults_of made test each (x ∷ xs) none =
+    let parts = neither (faults_of x) (flat_map faults_of xs) none in
+    and_from _ _ (each x parts.0) (all_pass faults_of made test each xs parts.1)
 
 -- ---- faults in their order
 

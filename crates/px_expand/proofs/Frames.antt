@@ -9,22 +9,23 @@ use Rattle.std.proofs.lemmas.Bool.{and_parts, false≢true}
 use Rattle.std.proofs.lemmas.Slice.Eq.{bytes_eq-Decides}
 use Rattle.px_value.specs.Name.{is_identifier}
 use Rattle.px_value.specs.Path.{below}
+use Rattle.px_syntax.specs.declared.expr.Identifier.{Identifier}
 use Rattle.px_syntax.specs.declared.word.BlockForm.{BlockForm}
 use Rattle.px_syntax.specs.Block.{ItemData, BlockTree, Braces, Actions, NoActions, More, Labelled, BodyTree, Inner, Assign, CallInto, Call, Update, If, While, For}
 use Rattle.px_syntax.specs.BlockFaults.{action_labels}
-use Rattle.px_syntax.specs.Scope.{Head, is_named, is_call, own_action, is_command_block, is_command_body, children_of}
-use Rattle.px_core.specs.Fit.{has_site, is_command}
-use Rattle.px_core.specs.Plan.{Site, Tree, is_same, sites_under}
+use Rattle.px_syntax.specs.Scope.{Head, head_of, is_named, is_call, own_action, is_command_block, is_command_body, children_of}
+use Rattle.px_core.specs.Fit.{is_command}
+use Rattle.px_core.specs.Plan.{Site, Tree, is_same, path_under, sites_under}
 use Rattle.px_expand.specs.Core.{name_of, follows, shaped, block_scope, block_core, actions_core, body_core}
 use Rattle.px_scope.specs.Actions.{kind_of}
 use Rattle.px_expand.specs.Kinds.{Shape, Rest, OneAction, Children, shape_of}
 use Rattle.px_expand.specs.Labels.{are_identifiers}
-use Rattle.px_forms.specs.Nodes.{Place, child}
+use Rattle.px_forms.specs.Nodes.{Place, Node, child, before}
 use Rattle.px_scope.specs.Scope.{Scope}
 use Rattle.px_expand.proofs.Naming.{hash_differs, names_from}
 use Rattle.px_expand.proofs.Seen.{HasHead, AgreesOn}
 use Rattle.px_expand.proofs.Sound.{View, view, body_named}
-use Rattle.px_expand.proofs.Within.{IsWithin, own_within, others_within}
+use Rattle.px_expand.proofs.Within.{IsWithin, named_within, others_within}
 
 -- ---- a block that is one node with a command
 
@@ -133,6 +134,14 @@ module _ (whole : List Site) where
         one_agrees name other head head.label (find (is_named name) heads) (list_any (is_same name) names) named.0
         (heads_agree name heads names named.1)
 
+  -- a node of this name, which is a Command where the text has it as one
+  pub head_within : (above : List (List ℕ)) (node : Node) (rest : Tree) (name : List ℕ) (label : Option Identifier)
+      (as_command : Bool) → IsWithin (sites_under above (before node rest)) whole → node.head.name ≡ name
+      → (as_command ≡ true → is_command node.head.kind ≡ true) → HasHead whole (path_under above name) (head_of label as_command)
+  head_within above node rest name label as_command within is command =
+      let named = named_within above node.head node.children rest whole within name is in
+      record { node = named (λ site. true) refl; command = λ call. named (λ site. is_command site.head.kind) (command call) }
+
   -- the actions of a List
   pub actions_heads : (above : List (List ℕ)) (scope : Scope) (path : List ℕ) (form : BlockForm) (behind : Option (List ℕ))
       (place : ℕ) (actions : Actions)
@@ -149,20 +158,14 @@ module _ (whole : List Site) where
   actions_heads above scope path form behind place (More (Labelled (Some label) body) rest) within labels =
       let at : Place = child path label.name (follows form behind) in
       let node = body_core scope at body in
-      let parts = and_parts (is_identifier label.name) (are_identifiers (action_labels rest)) labels in
-      let own = own_within (path ∷ above) node.head node.children _ whole within in
-      let named = body_named scope at body in (
+      let others = actions_core scope path form (Some (below path label.name)) (suc place) rest in
+      let parts = and_parts (is_identifier label.name) (are_identifiers (action_labels rest)) labels in (
         (
           refl,
           parts.0,
-          record {
-            node = subst (λ name. has_site (λ site. true) (below path name) whole ≡ true) named (own (λ site. true) refl);
-            command =
-                λ call.
-                subst (λ name. has_site (λ site. is_command site.head.kind) (below path name) whole ≡ true) named
-                (own (λ site. is_command site.head.kind) (body_command scope at body call));
-          },
+          head_within (path ∷ above) node others label.name (Some label) (is_command_body body) within
+              (body_named scope at body) (body_command scope at body),
         ),
         actions_heads above scope path form (Some (below path label.name)) (suc place) rest
-            (others_within (path ∷ above) node.head node.children _ whole within) parts.1,
+            (others_within (path ∷ above) node.head node.children others whole within) parts.1,
       )

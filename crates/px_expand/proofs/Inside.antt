@@ -16,7 +16,7 @@ use Rattle.px_syntax.specs.Scope as seen
 use Rattle.px_syntax.specs.Scope.{is_simple, own_action, is_command_block, children_of}
 use Rattle.px_syntax.specs.ValueType.{named_type}
 use Rattle.px_core.specs.declared.node.Kind.TheVariants as kinds
-use Rattle.px_core.specs.Fit.{declares_in, has_site, is_there, is_command, is_update}
+use Rattle.px_core.specs.Fit.{declares_in, is_there, is_command, is_update}
 use Rattle.px_core.specs.Plan as plan
 use Rattle.px_core.specs.Plan.{VariableData, Site, Tree, NoNode, path_under, sites_under}
 use Rattle.px_forms.specs.Adding.{Added}
@@ -32,13 +32,13 @@ use Rattle.px_expand.specs.Labels.{are_identifiers}
 use Rattle.px_scope.specs.Scope.{Scope, table, each_once}
 use Rattle.px_expand.proofs.Declaring.{names_of_variables}
 use Rattle.px_expand.proofs.Fitting.{at, LabelIs, AllFit, node_is, node_fits, nothing_said, entered_seen}
-use Rattle.px_expand.proofs.Frames.{NamedHeads, actions_heads, block_command}
+use Rattle.px_expand.proofs.Frames.{NamedHeads, head_within, actions_heads, block_command}
 use Rattle.px_expand.proofs.Mentions.{items_there, assign_there, call_into_there, call_alone_there, update_there}
-use Rattle.px_expand.proofs.Seen.{SameShown, shown-append, HasVariable, IsSeen}
+use Rattle.px_expand.proofs.Seen.{SameShown, shown-append, IsSeen}
 use Rattle.px_expand.proofs.Sound.{View, view, block_named, body_named}
 use Rattle.px_expand.proofs.Speaking.{are_nodes, finished_speaks, sequence_speaks, try_speaks, GivenSpeaks, AddedSpeaks}
 use Rattle.px_expand.proofs.Tables.{names_in, children_named_so}
-use Rattle.px_expand.proofs.Within.{IsWithin, own_within, children_within, others_within}
+use Rattle.px_expand.proofs.Within.{IsWithin, own_within, named_within, children_within, others_within}
 
 -- ---- the variables of items
 
@@ -183,7 +183,6 @@ module _ (whole : List Site) where
       let paths = paths_of (children_seen (shape_of block) path all) in
       let children = actions_core inner path form None 1 all in
       let named = block_named scope place block in
-      let own = own_within above node.head node.children NoNode whole within in
       subst
       (λ children. IsSeen whole (path ∷ above) (inside_block outer label block)
       (record { name = name; path = path; children = table children; variables = each_once (names_of_variables (variables_of items)) }
@@ -191,20 +190,14 @@ module _ (whole : List Site) where
       (sym (children_named_so (shape_of block) path all))
       (entered_seen whole above name path outer label (is_command_block block) scope (children_of all) (names_in (shape_of block) all)
       (flat_map visible_in items) (variables_of items) seen is
-      (record {
-        node = subst (λ text. has_site (λ site. true) (path_under above text) whole ≡ true) named (own (λ site. true) refl);
-        command =
-            λ call.
-            subst (λ text. has_site (λ site. is_command site.head.kind) (path_under above text) whole ≡ true) named
-            (own (λ site. is_command site.head.kind) (block_command scope place block call));
-      })
+      (head_within whole above node NoNode name label (is_command_block block) within named (block_command scope place block))
       (shaped_heads above name added (shape_of block) (own_action block) inner form items paths all (view form items all)
       labels within)
       (items_shown items)
       (λ text as_array declares.
-      subst (λ known. HasVariable whole (path_under above known) text as_array) named
-      (own (λ site. declares_in as_array text site.head.variables)
-      (ap (declares_in as_array text) (shaped_variables place (shape_of block) inner form items paths children) ∙ declares))))
+      named_within above node.head node.children NoNode whole within name named
+      (λ site. declares_in as_array text site.head.variables)
+      (ap (declares_in as_array text) (shaped_variables place (shape_of block) inner form items paths children) ∙ declares)))
 
   -- ---- the paths of actions
 
@@ -217,11 +210,9 @@ module _ (whole : List Site) where
       let name = name_of place (Labelled label body) in
       let here : Place = child path name (follows form behind) in
       let node = body_core scope here body in
-      let own = own_within (path ∷ above) node.head node.children _ whole within in
       and_from _ _
       (node_is whole (below path name)
-      (subst (λ text. has_site (λ site. true) (below path text) whole ≡ true) (body_named scope here body)
-      (own (λ site. true) refl)))
+      (named_within (path ∷ above) node.head node.children _ whole within name (body_named scope here body) (λ site. true) refl))
       (actions_there above scope path form (Some (below path name)) (suc place) rest
       (others_within (path ∷ above) node.head node.children _ whole within))
 

@@ -4,7 +4,7 @@ use Rattle.std.specs.Prelude.{if◌then◌else◌}
 use Rattle.std.specs.List.{list_any, list_all, flat_map}
 use denote.Enum.Bare.{sameb}
 use Rattle.std.proofs.lemmas.Bool.{and_from, not-false, cond_both}
-use Rattle.std.proofs.lemmas.List.Folds.{list_all-append}
+use Rattle.std.proofs.lemmas.List.Folds.{list_all-append, list_all-map}
 use Rattle.px_value.proofs.General.{neither}
 use Rattle.px_syntax.specs.contracts.word.Condition.{the_type as condition_type}
 use Rattle.px_syntax.specs.declared.expr.Attribute.{Attribute as AttributeWord}
@@ -33,7 +33,7 @@ use Rattle.px_expand.specs.Items.{given_by}
 use Rattle.px_scope.specs.Actions.{body_of, target_of, pair_of}
 use Rattle.px_scope.specs.Resolving.{resolved, resolved_each, attribute_term, binary_op, binary_function_op}
 use Rattle.px_scope.specs.Scope.{Scope, owner_of, path_meant}
-use Rattle.px_expand.proofs.Faultless.{fault_some, where_none}
+use Rattle.px_expand.proofs.Faultless.{all_pass, fault_some, where_none}
 use Rattle.px_expand.proofs.Seen.{HasHead, HasVariable, IsSeen, meant_there, owner_there}
 use Rattle.px_expand.proofs.Speaking.{speaks, both_speak, each_speaks, MaySpeak, GivenSpeaks, BodySpeaks}
 use Rattle.px_expand.proofs.Within.{site_weaker}
@@ -238,10 +238,10 @@ module _ (whole : List Site) where
 
     pairs_there : (pairs : List PairData) → flat_map (λ pair. faults_as told_types outer pair.value) pairs ≡ []
         → list_all (speaks (is_there whole)) (map (λ pair. pair.value) (map (pair_of scope) pairs)) ≡ true
-    pairs_there [] none = refl
-    pairs_there (first ∷ rest) none =
-        let parts = neither (faults_as told_types outer first.value) _ none in
-        and_from _ _ (judged_there told_types first.value parts.0) (pairs_there rest parts.1)
+    pairs_there pairs none =
+        list_all-map (speaks (is_there whole)) (λ (pair : plan.PairData). pair.value) (map (pair_of scope) pairs)
+        ∙ all_pass (λ (pair : PairData). faults_as told_types outer pair.value) (pair_of scope)
+        (λ (pair : plan.PairData). speaks (is_there whole) pair.value) (λ pair. judged_there told_types pair.value) pairs none
 
     call_there : (call : CallData) → call_faults outer call ≡ []
         → list_all (speaks (is_there whole)) (resolved_each scope call.args) ≡ true

@@ -8,7 +8,7 @@ use Rattle.std.proofs.lemmas.List.Folds.{list_all-append, list_all-map}
 use Rattle.px_value.specs.declared.enums.Outcome.{Outcome}
 use Rattle.px_value.specs.declared.enums.Outcome.TheVariants as outcomes
 use Rattle.px_value.proofs.Ascii.{list_all-weaker}
-use Rattle.px_value.proofs.General.{list_all_parts}
+use Rattle.px_value.proofs.General.{list_all_parts, unwrapped_has}
 use Rattle.px_core.specs.declared.expr.BinaryOp.{BinaryOp}
 use Rattle.px_core.specs.declared.expr.BinaryOp.TheVariants.{And, Or}
 use Rattle.px_core.specs.declared.expr.UnaryOp.TheVariants.{Not}
@@ -99,8 +99,7 @@ module _ (there : Reference → Bool) where
 
   unwrapped : (given : Option Term) (default : Term) → MaySpeak given → speaks default ≡ true
       → speaks (unwrap_or given default) ≡ true
-  unwrapped None default own other = other
-  unwrapped (Some term) default own other = own
+  unwrapped = unwrapped_has (λ term. speaks term ≡ true)
 
   pub adds_speaks : (op : BinaryOp) (given : Option Term) (added : Term) → MaySpeak given → speaks added ≡ true
       → speaks (adds op given added) ≡ true

@@ -3,15 +3,14 @@ use Rattle.std.proofs.Common.{◌≡◌, ℕ, suc, Bool, true, false, cond, List
 use Rattle.std.specs.Prelude.{◌||◌}
 use Rattle.std.specs.List.{list_any}
 use Rattle.std.specs.Map.{lookup}
-use Rattle.std.proofs.Math.Bool.{or_assoc, or-false}
+use Rattle.std.proofs.Math.Bool.{or_assoc, or_comm, or-false}
 use Rattle.std.proofs.lemmas.Bool.{cases_Bool}
-use Rattle.std.proofs.lemmas.List.Folds.{list_any-append}
 use Rattle.std.proofs.lemmas.Map.Made.{find_same}
 use Rattle.std.proofs.lemmas.Slice.Eq.{bytes_eq-Decides}
 use Rattle.indexmap.specs.IndexMap.{insert_all, insert_entry}
 use Rattle.indexmap.specs.IndexSet.{insert_all as insert_keys, insert_key}
 use Rattle.px_value.specs.Path.{below}
-use Rattle.px_value.proofs.General.{lookup-map}
+use Rattle.px_value.proofs.General.{list_any-push, lookup-map}
 use Rattle.px_syntax.specs.Block.{Actions, NoActions, More}
 use Rattle.px_core.specs.Plan.{is_same}
 use Rattle.px_expand.specs.Core.{name_of, actions_seen, children_seen}
@@ -67,14 +66,12 @@ once_among name known (first ∷ names) =
         → list_any (is_same name) known ≡ (list_any (is_same name) known || is_same name first)
     already is = absorbed (list_any (is_same name) known) (is_same name first) (present known is)
 
-    pushed : list_any (is_same name) (known ++ first ∷ []) ≡ (list_any (is_same name) known || is_same name first)
-    pushed = list_any-append (is_same name) known (first ∷ []) ∙ ap (λ test. list_any (is_same name) known || test) (or-false (is_same name first))
-
     of_test : (test : Bool) → (test ≡ true → list_any (is_same name) known ≡ (list_any (is_same name) known || is_same name first))
         → list_any (is_same name) (cond test known (known ++ first ∷ []))
         ≡ (list_any (is_same name) known || is_same name first)
     of_test true same = same refl
-    of_test false same = pushed
+    of_test false same =
+        list_any-push (is_same name) known first ∙ or_comm (is_same name first) (list_any (is_same name) known)
 
 found_below : (parent name : List ℕ) (known : List (List ℕ))
     → lookup (is_same name) (map (seen parent) known) ≡ cond (list_any (is_same name) known) (Some (below parent name)) None

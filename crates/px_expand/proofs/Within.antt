@@ -40,6 +40,12 @@ module _ (above : List (List ℕ)) (head : Head) (children rest : Tree) (whole :
       within.any (λ site. is_same site.path (path_under above head.name) && holds site)
       (or_left _ _ (and_from _ _ (same-self (path_under above head.name)) passes))
 
+  -- where its name is known
+  pub named_within : (name : List ℕ) → head.name ≡ name → (holds : Site → Bool) → holds (site_under above head) ≡ true
+      → has_site holds (path_under above name) whole ≡ true
+  named_within name is holds passes =
+      subst (λ text. has_site holds (path_under above text) whole ≡ true) is (own_within holds passes)
+
   pub children_within : IsWithin (sites_under (path_under above head.name ∷ above) children) whole
   children_within =
       front_within _ (sites_under above rest) whole (rest_within (site_under above head) _ whole within)

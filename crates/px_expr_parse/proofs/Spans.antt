@@ -1,5 +1,5 @@
 -- Whether a form spans some tokens depends on these alone.
-use Rattle.std.proofs.Common.{ℕ, zero, suc, ◌≤◌, inl, inr, ap, ◌∙◌, pos, List, Option, Some, None, arith}
+use Rattle.std.proofs.Common.{◌≡◌, ℕ, zero, suc, ◌+◌, ◌≤◌, inl, inr, sym, subst, pos, List, Option, Some, None, arith}
 use Rattle.std.specs.Option.{option_and_then}
 use Rattle.px_lex.specs.declared.keyword.Keyword.TheVariants as words
 use Rattle.px_lex.specs.declared.sign.Sign.{Sign}
@@ -18,8 +18,8 @@ use Rattle.px_syntax.specs.declared.operator.UnaryOperator.{UnaryOperator}
 use Rattle.px_syntax.specs.declared.word.LookWord.{LookWord}
 use Rattle.px_syntax.specs.declared.word.LookWord.TheVariants as looks
 use Rattle.px_syntax.specs.Expr.{Term, Terms, Literal, Enumerated, Variable, Element, Attribute, Look, UnaryCall, BinaryCall, Unary, Binary, NoTerms, More}
-use Rattle.px_syntax.specs.ExprGrammar.{arguments, at_least, attribute_word, bare, binary_keyword, binary_operator, enumerated_name, expression, further_arguments, literal_kind, look_end, look_keyword, node_reference, operand, optional_arguments, tolerance_number, unary_keyword, unary_operator}
-use Rattle.px_syntax.specs.Form.{Form, one, sign, numbered, identifier, nothing, never, ◌then◌, either, in_pairs}
+use Rattle.px_syntax.specs.ExprGrammar.{arguments, at_least, attribute_word, bare, binary_keyword, binary_operator, enumerated_keyword, enumerated_name, expression, further_arguments, literal_kind, look_end, look_keyword, node_reference, operand, optional_arguments, term_level, tolerance_number, unary_keyword, unary_operator}
+use Rattle.px_syntax.specs.Form.{Form, kind_at, one, sign, numbered, identifier, nothing, never, ◌then◌, either, in_pairs}
 use Rattle.px_syntax.specs.Operator.{binary_of, unary_of}
 use Rattle.px_expr_parse.specs.Tail.{attribute, closed, closed_arguments, named}
 use Rattle.px_expr_parse.specs.Verdict.{AgreeBefore}
@@ -32,12 +32,16 @@ pub record IsLocal (form : Form) : Type 0 where
 
 -- ---- small forms
 
-pub local_one : (kind : TokenKind) → IsLocal (one kind)
-local_one kind =
+-- a token that is so
+local_token : (P : Option TokenKind → Type 0) → IsLocal (λ tokens from to. P (kind_at tokens from) × (to ≡ from + 1))
+local_token P =
     record {
       rises = λ tokens from to o. omega (arith, o.1);
-      moves = λ tokens others from to agree o. (agree from (omega (arith, o.1)) ∙ o.0, o.1);
+      moves = λ tokens others from to agree o. (subst P (sym (agree from (omega (arith, o.1)))) o.0, o.1);
     }
+
+pub local_one : (kind : TokenKind) → IsLocal (one kind)
+local_one kind = local_token (λ token. token ≡ Some kind)
 
 pub local_sign : (which : Sign) → IsLocal (sign which)
 local_sign which = local_one (kinds.Sign which)
@@ -84,6 +88,15 @@ local_either f g =
       ];
     }
 
+-- a form of something that is so
+pub local_some : {A : Type 0} {form : A → Form} (P : A → Type 0) → ((some : A) → IsLocal (form some))
+    → IsLocal (λ tokens from to. (some : A) × P some × form some tokens from to)
+local_some P l =
+    record {
+      rises = λ tokens from to o. (l o.0).rises tokens from to o.2;
+      moves = λ tokens others from to agree o. (o.0, o.1, (l o.0).moves tokens others from to agree o.2);
+    }
+
 pub local_identifier : (name : Identifier) → IsLocal (identifier name)
 local_identifier name = local_numbered name.token (local_one (kinds.Identifier name.name))
 
@@ -96,36 +109,18 @@ local_in_pairs zero l = l
 local_in_pairs (suc pairs) l = local_between signs.OpenParen signs.CloseParen (local_in_pairs pairs l)
 
 local_at_least : (floor : ℕ) (term : Term) {form : Form} → IsLocal form → IsLocal (at_least floor term form)
-local_at_least floor term l =
-    record {
-      rises = λ tokens from to o. (local_in_pairs o.0 l).rises tokens from to o.2;
-      moves = λ tokens others from to agree o. (o.0, o.1, (local_in_pairs o.0 l).moves tokens others from to agree o.2);
-    }
+local_at_least floor term l = local_some (λ (pairs : ℕ). pairs ≡ 0 → floor ≤ term_level term) (λ pairs. local_in_pairs pairs l)
 
 -- ---- words
 
 local_enumerated : (value : EnumeratedValue) → IsLocal (enumerated_name value)
-local_enumerated value =
-    record {
-      rises = λ tokens from to o. omega (arith, o.2.1);
-      moves = λ tokens others from to agree o. (o.0, o.1, (agree from (omega (arith, o.2.1)) ∙ o.2.0, o.2.1));
-    }
+local_enumerated value = local_some (λ which. enumerated_keyword value ≡ Some which) (λ which. local_one (kinds.Keyword which))
 
 local_binary : (operator : BinaryOperator) → IsLocal (binary_operator operator)
-local_binary operator =
-    record {
-      rises = λ tokens from to o. omega (arith, o.1);
-      moves = λ tokens others from to agree o.
-          (ap (option_and_then binary_of) (agree from (omega (arith, o.1))) ∙ o.0, o.1);
-    }
+local_binary operator = local_token (λ token. option_and_then binary_of token ≡ Some operator)
 
 local_unary : (operator : UnaryOperator) → IsLocal (unary_operator operator)
-local_unary operator =
-    record {
-      rises = λ tokens from to o. omega (arith, o.1);
-      moves = λ tokens others from to agree o.
-          (ap (option_and_then unary_of) (agree from (omega (arith, o.1))) ∙ o.0, o.1);
-    }
+local_unary operator = local_token (λ token. option_and_then unary_of token ≡ Some operator)
 
 -- ---- expressions
 

@@ -10,14 +10,14 @@ use Rattle.std.proofs.lemmas.List.Folds.{fold_along, list_all-append, list_any-a
 use Rattle.std.proofs.lemmas.List.Recursion.{and_at}
 use Rattle.std.proofs.lemmas.List.Sums.{AllPass-from_list_all}
 use Rattle.px_value.proofs.General.{list_all_parts}
-use Rattle.px_core.specs.Fit.{Reference, references_of_site, path_is_there, variable_is_there, paths_are_there, variables_are_there, has_right_variables, AreDistinct, is_there}
-use Rattle.px_core.specs.Plan.{Site, no_site, is_same}
+use Rattle.px_core.specs.Fit.{Reference, references, references_of_site, references_of_target, terms_of, terms_of_conditions, targets_of, path_is_there, variable_is_there, paths_are_there, variables_are_there, has_right_variables, AreDistinct, is_there}
+use Rattle.px_core.specs.Plan.{Site, Head, no_site, is_same}
 use Rattle.px_core.proofs.Paths.{same-self}
 use Rattle.px_flat.specs.declared.names.Names.{Names}
 use Rattle.px_flat.specs.Extents.{AreBelow}
 use Rattle.px_flat.specs.FitPlan.{IsFitPlan}
 use Rattle.px_flat.specs.Layout.{variable_cells}
-use Rattle.px_flat.specs.Lookups.{AreKnown, lookups_in_head, lookups_of, with_name}
+use Rattle.px_flat.specs.Lookups.{AreKnown, lookups_in, lookups_in_body, lookups_in_head, lookups_of, with_name}
 use Rattle.px_flat.specs.Names.{plan_in}
 use Rattle.px_flat.specs.Row.{site_in, after_last}
 use Rattle.px_flat.proofs.Numbers.{distinct_sites}
@@ -143,3 +143,22 @@ site_known plan sound node within = record {
   looked_up = part_passes (λ name. list_any (is_same name) (lookups_of plan)) (λ site. lookups_in_head site.head) plan
       node no_site (all_added [] (flat_map (λ site. lookups_in_head site.head) plan)) within;
 }
+
+-- each of its conditions, and its body
+pub conditions_known : (plan : List Site) → IsSound plan → (node : ℕ) → node < length plan
+    → All (λ term. AreKnown plan (references term) (lookups_in term)) (terms_of_conditions (site_in plan node).head.conditions)
+conditions_known plan sound node within =
+    let head : Head = (site_in plan node).head in
+    each_known plan references lookups_in (terms_of_conditions head.conditions)
+    (front plan (flat_map references (terms_of_conditions head.conditions))
+    (flat_map references (terms_of head.body) ++ flat_map references_of_target (targets_of head.body))
+    (flat_map lookups_in (terms_of_conditions head.conditions)) (lookups_in_body head.body) (site_known plan sound node within))
+
+pub body_known : (plan : List Site) → IsSound plan → (node : ℕ) → node < length plan
+    → AreKnown plan (flat_map references (terms_of (site_in plan node).head.body)
+    ++ flat_map references_of_target (targets_of (site_in plan node).head.body)) (lookups_in_body (site_in plan node).head.body)
+body_known plan sound node within =
+    let head : Head = (site_in plan node).head in
+    back plan (flat_map references (terms_of_conditions head.conditions))
+    (flat_map references (terms_of head.body) ++ flat_map references_of_target (targets_of head.body))
+    (flat_map lookups_in (terms_of_conditions head.conditions)) (lookups_in_body head.body) (site_known plan sound node within)

@@ -12,7 +12,7 @@ use Rattle.px_flat.specs.Lookups.{lookups_in, lookups_in_target, lookups_in_body
 use Rattle.px_flat.specs.Parts.{IsParts}
 use Rattle.px_flat.specs.Row.{site_in}
 use Rattle.px_flat.specs.Values.{HasValue, HaveValues}
-use Rattle.px_flat.proofs.Known.{IsSound, front, back, each_known, site_known}
+use Rattle.px_flat.proofs.Known.{IsSound, front, back, each_known, conditions_known, body_known}
 use Rattle.px_flat.proofs.NumberedValues.{numbered_value-numbered}
 
 -- the index of a target is known with it
@@ -31,18 +31,13 @@ pub have_values : (plan : List Site) (cells : List Value) (reports : List (LookS
     → HaveValues plan cells reports acts (site_in plan node).head
 have_values plan cells reports acts node sound within parts =
     let head : Head = (site_in plan node).head in
-    let known = site_known plan sound node within in
-    let refs : List Reference = flat_map references (terms_of_conditions head.conditions) in
     let inner : List Reference = flat_map references (terms_of head.body) in
     let outer : List Reference = flat_map references_of_target (targets_of head.body) in
-    let names : List (List ℕ) = flat_map lookups_in (terms_of_conditions head.conditions) in
-    let body : AreKnown plan (inner ++ outer) (lookups_in_body head.body) =
-    back plan refs (inner ++ outer) names (lookups_in_body head.body) known in
+    let body : AreKnown plan (inner ++ outer) (lookups_in_body head.body) = body_known plan sound node within in
     let value : (term : Term) → AreKnown plan (references term) (lookups_in term) → HasValue plan cells reports acts term =
     λ term known. numbered_value-numbered plan cells reports acts term sound parts known in
     record {
-      conditions = λ k d there. value (get_or (terms_of_conditions head.conditions) k d) (each_known plan references lookups_in (terms_of_conditions head.conditions)
-          (front plan refs (inner ++ outer) names (lookups_in_body head.body) known) k d there);
+      conditions = λ k d there. value (get_or (terms_of_conditions head.conditions) k d) (conditions_known plan sound node within k d there);
       body = λ k d there. value (get_or (terms_of head.body) k d) (each_known plan references lookups_in (terms_of head.body)
           (front plan inner outer (flat_map lookups_in (terms_of head.body)) (flat_map lookups_in_target (targets_of head.body)) body)
           k d there);

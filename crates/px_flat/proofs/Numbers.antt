@@ -1,12 +1,11 @@
 -- The number of each path.
-use Rattle.std.proofs.Common.{◌≡◌, ℕ, ◌+◌, ◌<◌, false, nat_lt, List, [], ◌∷◌, ◌++◌, length, get_or, take, refl, ap, sym, ◌∙◌, arith, Option, Some, None, if◌then◌else◌}
-use Rattle.std.specs.List.{list_any, position_or_len}
-use Rattle.std.proofs.lemmas.Bool.{lt-ltb}
-use Rattle.std.proofs.lemmas.Grind.{common_steps}
+use Rattle.std.proofs.Common.{◌≡◌, ℕ, ◌+◌, ◌<◌, false, List, [], ◌∷◌, ◌++◌, length, get_or, take, refl, ap, sym, ◌∙◌, arith, Option, Some, None, if◌then◌else◌}
+use Rattle.std.specs.List.{list_any}
 use Rattle.std.proofs.lemmas.List.{take_more, get_or-map, get_or-take, length-map, length-take}
 use Rattle.std.proofs.lemmas.List.Folds.{list_any_none}
-use Rattle.std.proofs.lemmas.List.Sums.{fails_before_first, position_or_len_is}
+use Rattle.std.proofs.lemmas.List.Quantifiers.{position-Some}
 use Rattle.indexmap.specs.IndexSet.{insert_key}
+use Rattle.px_value.proofs.General.{position_is}
 use Rattle.px_core.specs.Fit.{AreDistinct}
 use Rattle.px_core.specs.Plan.{Site, no_site, is_same}
 use Rattle.px_core.proofs.Paths.{same-self, same-other}
@@ -21,20 +20,16 @@ distinct_sites rows laid i j hi hj same =
 
 -- ---- the number of a path
 
-first_place : (plan : List Site) (i : ℕ) → AreDistinct plan → i < length plan
-    → position_or_len (is_same (site_in plan i).path) (paths_of plan) ≡ i
-first_place plan i distinct within =
+pub number_is : (plan : List Site) (i : ℕ) → AreDistinct plan → i < length plan
+    → number_at plan (site_in plan i).path ≡ Some i
+number_is plan i distinct within =
     let own : List ℕ = (site_in plan i).path in
-    position_or_len_is (is_same own) (paths_of plan) i [] (omega (arith, within, length-map plan (λ (site : Site). site.path)))
+    position_is (is_same own) (paths_of plan) i [] (omega (arith, within, length-map plan (λ (site : Site). site.path)))
     (λ k before.
     let there : k < length plan = omega (arith, before, within) in
     ap (is_same own) (get_or-map (λ (site : Site). site.path) plan k no_site [] there)
     ∙ same-other own (site_in plan k).path (λ same. absurd (omega (arith, before, distinct i k within there same))))
-    (λ inside. ap (is_same own) (get_or-map (λ (site : Site). site.path) plan i no_site [] within) ∙ same-self own)
-
-pub number_is : (plan : List Site) (i : ℕ) → AreDistinct plan → i < length plan
-    → number_at plan (site_in plan i).path ≡ Some i
-number_is plan i distinct within = grind (arith, common_steps, first_place, length-map, nat_lt, lt-ltb)
+    (ap (is_same own) (get_or-map (λ (site : Site). site.path) plan i no_site [] within) ∙ same-self own)
 
 -- ---- the paths in their order
 
@@ -46,7 +41,7 @@ new_path plan i distinct within =
     list_any_none (is_same own) (take i (paths_of plan)) (λ k d inside.
     let before : k < i = omega (arith, inside, length-take i (paths_of plan)) in
     ap (is_same own) (get_or-take i (paths_of plan) k d before)
-    ∙ fails_before_first (is_same own) (paths_of plan) k d (omega (arith, before, first_place plan i distinct within)))
+    ∙ (position-Some (is_same own) (paths_of plan) i d (number_is plan i distinct within)).2 k before)
 
 -- one path more is inserted
 pub paths_more : (plan : List Site) (i : ℕ) (path : List ℕ) → AreDistinct plan → i < length plan

@@ -1,8 +1,8 @@
 -- What a node of a fit plan writes is declared, and a cell belongs to one variable at most.
-use Rattle.std.proofs.Common.{◌≡◌, ◌≢◌, ℕ, ◌+◌, ◌<◌, ◌≤◌, Bool, true, false, not, ◌&&◌, List, [], ◌∷◌, ◌++◌, length, refl, ap, sym, ◌∙◌, subst, arith, inl, inr, Option, Some, None, is_some, if◌then◌else◌}
+use Rattle.std.proofs.Common.{◌≡◌, ◌≢◌, ℕ, ◌+◌, ◌-◌, ◌<◌, ◌≤◌, Bool, true, false, not, ◌&&◌, List, [], ◌∷◌, ◌++◌, length, refl, ap, sym, ◌∙◌, subst, arith, inl, inr, Option, Some, None, is_some, if◌then◌else◌}
 use Rattle.std.specs.List.{list_all, list_any, flat_map}
 use Rattle.std.specs.Cmp.Lexicographic.{same_text}
-use Rattle.std.proofs.lemmas.Bool.{and_parts, cases_lt}
+use Rattle.std.proofs.lemmas.Bool.{and_parts, cases_eq, cases_lt}
 use Rattle.std.proofs.lemmas.Grind.{common_steps}
 use Rattle.std.proofs.lemmas.List.{take-take}
 use Rattle.std.proofs.lemmas.List.Sums.{AllPass-from_list_all}
@@ -14,6 +14,7 @@ use Rattle.px_sem.specs.Conflicts.{target_of}
 use Rattle.px_flat.specs.Layout.{Place, place_from, first_cell, variable_cells}
 use Rattle.px_flat.specs.Numbered.{place_of}
 use Rattle.px_flat.specs.Row.{site_in}
+use Rattle.px_flat.specs.Within.{IsPlace}
 use Rattle.px_flat.proofs.Known.{IsSound}
 use Rattle.px_flat.proofs.Sums.{sum_more, sum_front}
 use Rattle.px_flat.proofs.VariableValues.{HasPlace, has_place, place_of-node}
@@ -83,6 +84,14 @@ declared plan owner name form sound there = record {
 pub place_at : (plan : List Site) (owner name : List ℕ) → IsSound plan → (its : IsDeclared plan owner name)
     → place_of plan owner name ≡ its.has.place
 place_at plan owner name sound its = place_of-node plan owner name its.node sound.distinct its.within its.path_is its.has
+
+-- it has cells there, one or more
+pub declared_place : (plan : List Site) (owner name : List ℕ) → IsSound plan → IsDeclared plan owner name
+    → IsPlace plan (place_of plan owner name)
+declared_place plan owner name sound its = subst (IsPlace plan) (sym (place_at plan owner name sound its)) (record {
+  some = its.has.some_cells;
+  within = omega (arith, its.has.within, cells_within plan its.node its.within);
+})
 
 reference_declared : (plan : List Site) (owner name : List ℕ) (index : Option Term) → IsSound plan
     → list_all (variable_is_there plan) (references_of_target (record { owner = owner; name = name; index = index })) ≡ true
@@ -161,23 +170,19 @@ pub one_cell : (plan : List Site) (owner name other_owner other_name : List ℕ)
     → i < a.has.place.size → j < b.has.place.size → a.has.place.first + i ≡ b.has.place.first + j
     → (owner ≡ other_owner) × (name ≡ other_name)
 one_cell plan owner name other_owner other_name i j a b in_a in_b same =
-    elim (cases_lt a.node b.node) [
-      | inl before ↦
-          absurd (omega (arith, same, in_a, a.has.within, behind_b, cells_apart plan a.node b.node before (omega (arith, b.within))))
-      | inr not_before ↦
-          elim (cases_lt b.node a.node) [
-            | inl after ↦
-                absurd (omega (arith, same, in_b, b.has.within, behind_a, cells_apart plan b.node a.node after (omega (arith, a.within))))
-            | inr not_after ↦
-                let one : b.node ≡ a.node = omega (arith, not_before, not_after) in (
-                  sym a.path_is ∙ ap (λ node. (site_in plan node).path) (sym one) ∙ b.path_is,
-                  one_name (first_cell plan a.node) (site_in plan a.node).head.variables name other_name a.has.place b.has.place
-                      i j a.has.is
-                      (subst (λ node. place_from (first_cell plan node) (site_in plan node).head.variables other_name ≡ Some b.has.place)
-                      one b.has.is)
-                      in_a in_b same,
-                )
-          ]
+    elim (cases_eq b.node a.node) [
+      | inl one ↦ (
+        sym a.path_is ∙ ap (λ node. (site_in plan node).path) (sym one) ∙ b.path_is,
+        one_name (first_cell plan a.node) (site_in plan a.node).head.variables name other_name a.has.place b.has.place
+            i j a.has.is
+            (subst (λ node. place_from (first_cell plan node) (site_in plan node).head.variables other_name ≡ Some b.has.place)
+            one b.has.is)
+            in_a in_b same,
+      )
+      | inr apart ↦ absurd (nodes_apart plan a.node b.node (a.has.place.first + i - first_cell plan a.node)
+          (b.has.place.first + j - first_cell plan b.node) a.within b.within (λ is. apart (sym is))
+          (omega (arith, in_a, behind_a, a.has.within)) (omega (arith, in_b, behind_b, b.has.within))
+          (omega (arith, same, behind_a, behind_b)))
     ]
   where
     behind_a : first_cell plan a.node ≤ a.has.place.first

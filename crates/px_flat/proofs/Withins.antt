@@ -7,17 +7,17 @@ use Rattle.std.proofs.lemmas.List.Elements.{All-map}
 use Rattle.std.proofs.lemmas.Simd.{map-map}
 use Rattle.px_core.specs.Expr as terms
 use Rattle.px_core.specs.Expr.{Term, Terms, NoTerms, More}
-use Rattle.px_core.specs.Fit.{Node, CommandNode, UpdateNode, Scalar, Array, Reference, references, references_of_each, references_of_target, terms_of, terms_of_conditions, targets_of, declares_scalar, declares_array, is_command, is_update}
+use Rattle.px_core.specs.Fit.{Node, CommandNode, UpdateNode, Scalar, Array, references, references_of_each, references_of_target, terms_of, terms_of_conditions, targets_of, declares_scalar, declares_array, is_command, is_update}
 use Rattle.px_core.specs.Plan as core
 use Rattle.px_core.specs.Plan.{Site, Head, ConditionTerms, TargetData, BodyData, PairData, VariableData, no_term, is_same}
 use Rattle.px_flat.specs.Lookups.{lookups_in, lookups_in_each, lookups_in_target, lookups_in_body, lookups_of, AreKnown}
 use Rattle.px_flat.specs.Numbered.{numbered, each_numbered, numbered_target, numbered_body, numbered_conditions, numbered_node, node_of, place_of}
 use Rattle.px_flat.specs.Row.{site_in}
 use Rattle.px_flat.specs.Within.{IsPlace, IsWithin, AreWithin, IsTargetWithin, IsBodyWithin, AreConditionsWithin, IsNodeWithin}
-use Rattle.px_flat.proofs.Known.{IsSound, front, back, each_known, site_known}
+use Rattle.px_flat.proofs.Known.{IsSound, front, back, each_known, conditions_known, body_known}
 use Rattle.px_flat.proofs.NumberedValues.{first_path, first_variable}
 use Rattle.px_flat.proofs.VariableValues.{number_within}
-use Rattle.px_flat.proofs.Variables.{IsDeclared, declared, place_at, cells_within}
+use Rattle.px_flat.proofs.Variables.{declared, declared_place}
 use Rattle.px_flat.proofs.Worlds.{IsThere, site_there, node_of-path}
 
 -- a node that is there has its number
@@ -32,12 +32,7 @@ place_within : (plan : List Site) (owner name : List ℕ) (form : VariableData �
     → IsThere plan owner (λ site. list_any (λ variable. is_same variable.name name && form variable) site.head.variables)
     → IsPlace plan (place_of plan owner name)
 place_within plan owner name form sound there =
-    let own : IsDeclared plan owner name = declared plan owner name form sound there in
-    subst (IsPlace plan) (sym (place_at plan owner name sound own))
-    (record {
-      some = own.has.some_cells;
-      within = omega (arith, own.has.within, cells_within plan own.node own.within);
-    })
+    declared_place plan owner name sound (declared plan owner name form sound there)
 
 mutual
   pub numbered_within : (plan : List Site) (term : Term) → IsSound plan → AreKnown plan (references term) (lookups_in term)
@@ -160,10 +155,9 @@ body_within plan (core.Update pairs) sound known =
     (front plan (flat_map references (map (λ pair. pair.value) pairs)) [] (flat_map lookups_in (map (λ pair. pair.value) pairs)) [] known))
 
 conditions_within : (plan : List Site) (conditions : ConditionTerms) → IsSound plan
-    → AreKnown plan (flat_map references (terms_of_conditions conditions)) (flat_map lookups_in (terms_of_conditions conditions))
+    → All (λ term. AreKnown plan (references term) (lookups_in term)) (terms_of_conditions conditions)
     → AreConditionsWithin plan (numbered_conditions plan conditions)
-conditions_within plan conditions sound known =
-    let each = each_known plan references lookups_in (terms_of_conditions conditions) known in
+conditions_within plan conditions sound each =
     record {
       start = numbered_within plan conditions.start sound (each 0 no_term (omega arith));
       end = numbered_within plan conditions.end sound (each 1 no_term (omega arith));
@@ -179,11 +173,7 @@ pub node_is_within : (plan : List Site) (node : ℕ) → IsSound plan → node <
     → IsNodeWithin plan (numbered_node plan (site_in plan node).head)
 node_is_within plan node sound within =
     let head : Head = (site_in plan node).head in
-    let known = site_known plan sound node within in
-    let refs : List Reference = flat_map references (terms_of_conditions head.conditions) in
-    let more : List Reference = flat_map references (terms_of head.body) ++ flat_map references_of_target (targets_of head.body) in
-    let names : List (List ℕ) = flat_map lookups_in (terms_of_conditions head.conditions) in
     record {
-      conditions = conditions_within plan head.conditions sound (front plan refs more names (lookups_in_body head.body) known);
-      body = body_within plan head.body sound (back plan refs more names (lookups_in_body head.body) known);
+      conditions = conditions_within plan head.conditions sound (conditions_known plan sound node within);
+      body = body_within plan head.body sound (body_known plan sound node within);
     }

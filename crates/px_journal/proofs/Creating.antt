@@ -14,7 +14,7 @@ use Rattle.px_journal.specs.Layout.{heading, is_open, is_closed, is_nothing, nex
 use Rattle.px_journal.specs.declared.version.Version.{Version}
 use Rattle.px_journal.proofs.Appending.{closed_within, open_or_closed, same_told}
 use Rattle.px_journal.proofs.Fronts.{is_closed-front}
-use Rattle.px_journal.proofs.Moments.{leaves, leaves_more, leaves_on}
+use Rattle.px_journal.proofs.Moments.{leaves, leaves_both, leaves_on}
 use Rattle.px_journal.proofs.Reading.{part_is}
 use Rattle.px_journal.proofs.Torn.{torn_below, torn_above, written_below, written_from, written_above}
 
@@ -148,6 +148,5 @@ told_after was now told same is = told_of now (same ∙ is_some_at was told is)
 pub old_or_new : (version : Version) (images : Images) (text : List ℕ) (old mid new : List Moment)
     → LeavesOnly images (λ image. images old image ⊎ IsTrue (is_nothing image)) old mid
     → LeavesOnly images (λ image. IsTrue (is_nothing image) ⊎ StandsAs version image text []) mid new → LeavesOnly images (OldOrNewAs version (images old) text) old new
-old_or_new version images text old mid new first second = leaves_on images (OldOrNewAs version (images old) text) old mid new
-    (leaves_more images _ _ old mid (λ image left. ⊎_elim (λ was. inl was) (λ none. inr (inl none)) left) first)
-    (leaves_more images _ _ mid new (λ image left. inr left) second)
+old_or_new version images text old mid new first second = leaves_both images _ _ (OldOrNewAs version (images old) text) old mid new
+    (λ image left. ⊎_elim (λ was. inl was) (λ none. inr (inl none)) left) (λ image left. inr left) first second

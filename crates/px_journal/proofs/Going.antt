@@ -2,12 +2,15 @@
 use Rattle.std.proofs.Common.{◌≡◌, ◌≢◌, ◌≤◌, ℕ, Bool, List, length, Option, refl, sym, ◌∙◌, ap, arith}
 use Rattle.std.proofs.lemmas.List.{take_all}
 use Rattle.std.specs.Prelude.{Result, Ok, Err, IsErrAnd}
+use Rattle.std.proofs.result.Match.{err_is}
 use Rattle.px_value.proofs.General.{begins_further}
 use Rattle.px_ports.specs.Disk.{CountsFaults, OnlyReads, StaysAttached}
 use Rattle.px_ports.specs.Host.{Rose}
+use Rattle.px_ports.specs.Moment.{Elapses, Stays}
 use Rattle.px_ports.specs.declared.disk.Disk
 use Rattle.px_journal.specs.Goes.{RisesWhere, Goes, Reads}
-use Rattle.px_journal.proofs.Moments.{reads_on}
+use Rattle.px_journal.specs.Journal.{IsUnwritten}
+use Rattle.px_journal.proofs.Moments.{elapses_on, reads_on}
 
 -- ---- counts
 
@@ -26,20 +29,18 @@ rises_then {F} {G} {first} {before} {now} early unfailed late = record {
 }
 
 -- a fault that is handed on is the fault that came
-pub err_is : {T E : Type 0} (result : Result T E) (given came : E) → IsErrAnd result (λ handed. handed ≡ came) → result ≡ Err given → came ≡ given
-err_is (Ok value) given came handed same = absurd handed
-err_is (Err fault) given came handed same = sym handed ∙ (let is : fault ≡ given = cc in is)
+pub fault_came : {T E : Type 0} (result : Result T E) (given came : E) → IsErrAnd result (λ handed. handed ≡ came) → result ≡ Err given → came ≡ given
+fault_came result given came handed same = let is = sym (err_is result came handed) ∙ same in cc
 
 -- an error that `?` hands on is the call's
 pub handed_to : {T U E : Type 0} {result : Result U E} {came why : E} → IsErrAnd result (λ given. given ≡ came) → ◌≡◌ {A = Result T E} (Err came) (Err why) → result ≡ Err why
-handed_to {result = Ok value} handed same = absurd handed
-handed_to {result = Err given} handed same = cc
+handed_to {result = result} {came = came} handed same = let is = err_is result came handed in cc
 
 pub handed_from : {T U E : Type 0} {result : Result U E} {came why : E} → IsErrAnd result (λ given. given ≡ came) → result ≡ Err why → ◌≡◌ {A = Result T E} (Err came) (Err why)
-handed_from handed same = ap Err (err_is _ _ _ handed same)
+handed_from handed same = ap Err (fault_came _ _ _ handed same)
 
 pub other_fault : {U E : Type 0} {result : Result U E} {came why : E} → IsErrAnd result (λ given. given ≡ came) → came ≢ why → result ≡ Err why → ⊥
-other_fault handed other same = other (err_is _ _ _ handed same)
+other_fault handed other same = other (fault_came _ _ _ handed same)
 
 -- the same failure, told in other words
 pub rises_told : {F G : Type 0} {before now : ℕ} → RisesWhere F before now → (F → G) → (G → F) → RisesWhere G before now
@@ -56,6 +57,11 @@ stays_on early late = record { bound = late.bound ∙ early.bound; attached = la
 -- ---- disks
 
 module _ {D : Type 0} (members : Disk.Ghosts D) where
+  -- two calls that write nothing, one behind the other
+  pub unwritten_then : {old mid new : D} → members.writes mid ≡ members.writes old → Elapses members.images Stays (members.moments old) (members.moments mid)
+      → members.writes new ≡ members.writes mid → Elapses members.images Stays (members.moments mid) (members.moments new) → IsUnwritten members old new
+  unwritten_then same early still late = record { writes = still ∙ same; elapses = elapses_on members.images Stays _ _ _ early late }
+
   -- a call of a disk that only reads, and didn't fail
   pub reads_by_call : {T : Type 0} {old new : D} (value : T)
       → OnlyReads members.images (members.content old) (members.content new) (members.moments old) (members.moments new)

@@ -1,12 +1,12 @@
 -- Bytes are of at most one version, and stand for at most one text and one history.
 use Rattle.std.proofs.Common.{rules, ◌≡◌, ◌≤◌, ◌<◌, ◌+◌, ◌^◌, ◌⊎◌, inl, inr, ℕ, List, [], ◌∷◌, ◌++◌, Option, length, take, drop, refl, sym, ◌∙◌, ap, subst, arith, length-append, IsTrue}
-use Rattle.std.proofs.lemmas.List.{drop_at, drop-drop, drop-take, get_or-drop}
+use Rattle.std.proofs.lemmas.List.{append-nil, drop_at, drop-drop, drop-take, get_or-drop}
 use Rattle.std.proofs.lemmas.Bool.{and_parts}
 use Rattle.std.specs.Prelude.{slice_index}
 use Rattle.std.specs.Io.{StartsWith}
 use Rattle.std.specs.List.{list_all}
 use Rattle.byteorder.specs.Endian.{big_bytes, big_number}
-use Rattle.byteorder.specs.Numbers.{length-bytes_high_first, big_number-reads_back}
+use Rattle.byteorder.specs.Numbers.{big_from-take, length-bytes_high_first, big_number-reads_back}
 use Rattle.px_event.specs.declared.entry.Entry.{Entry}
 use Rattle.px_event.specs.declared.named.NamedEntry.{NamedEntry}
 use Rattle.px_event.proofs.Appends.{begins_with}
@@ -27,10 +27,14 @@ module _ (a b bytes : List ℕ) (starts : StartsWith bytes (a ++ b)) where
       ∙ ap (λ (l : List ℕ). drop (length a) l) starts
       ∙ drop_at a b (length a) refl
 
--- a number has one spelling
-pub one_number : (n x y : ℕ) → x < 256 ^ n → y < 256 ^ n → big_bytes n x ≡ big_bytes n y → x ≡ y
-one_number n x y x_fits y_fits same =
-    sym (big_number-reads_back n x [] x_fits) ∙ ap (λ (l : List ℕ). big_number n (l ++ [])) same ∙ big_number-reads_back n y [] y_fits
+-- the number that is spelled at the front
+pub spelled : (n x : ℕ) (bytes : List ℕ) → x < 256 ^ n → StartsWith bytes (big_bytes n x) → big_number n bytes ≡ x
+spelled n x bytes fits starts =
+    let long = length-bytes_high_first n x in
+    sym (big_from-take 0 n n bytes (omega arith))
+    ∙ ap (λ (k : ℕ). big_number n (take k bytes)) (sym long)
+    ∙ ap (λ (l : List ℕ). big_number n l) (starts ∙ sym (append-nil (big_bytes n x)))
+    ∙ big_number-reads_back n x [] fits
 
 -- what is spelled behind its length is one text
 one_text : (n : ℕ) (x y bytes : List ℕ) → length x < 256 ^ n → length y < 256 ^ n → StartsWith bytes (big_bytes n (length x) ++ x)
@@ -38,11 +42,9 @@ one_text : (n : ℕ) (x y bytes : List ℕ) → length x < 256 ^ n → length y 
 one_text n x y bytes x_fits y_fits x_starts y_starts =
     let x_long = length-bytes_high_first n (length x) in
     let y_long = length-bytes_high_first n (length y) in
-    let numbers : big_bytes n (length x) ≡ big_bytes n (length y) =
-    sym (starts_first (big_bytes n (length x)) x bytes x_starts)
-    ∙ ap (λ (k : ℕ). take k bytes) (x_long ∙ sym y_long)
-    ∙ starts_first (big_bytes n (length y)) y bytes y_starts in
-    let long : length x ≡ length y = one_number n (length x) (length y) x_fits y_fits numbers in
+    let long : length x ≡ length y =
+    sym (spelled n (length x) bytes x_fits (starts_first (big_bytes n (length x)) x bytes x_starts))
+    ∙ spelled n (length y) bytes y_fits (starts_first (big_bytes n (length y)) y bytes y_starts) in
     sym (starts_second (big_bytes n (length x)) x bytes x_starts)
     ∙ ap (λ (k : ℕ). take k (drop (length (big_bytes n (length x))) bytes)) long
     ∙ ap (λ (k : ℕ). take (length y) (drop k bytes)) (x_long ∙ sym y_long)

@@ -30,6 +30,10 @@ module _ (images : Images) where
         inl (left.0, left.1, before, subst (λ (ms : List Moment). images ms image) same (left.3))
   ]
 
+  -- what a crash at a moment of a call that writes nothing may leave is an image from before it
+  pub left_before : (old new : List Moment) → Elapses images Stays old new → (image : List ℕ) → LeftSince images new (length old) image → images old image
+  left_before old new elapses image left = let from = elapses.each image left in subst (images old) (sym (from.2)) (from.1)
+
   -- a call that writes nothing goes on from one that does
   pub elapses_on : (step : List ℕ → List ℕ → Type 0) (old mid new : List Moment) → Elapses images step old mid → Elapses images Stays mid new
       → Elapses images step old new
@@ -37,10 +41,7 @@ module _ (images : Images) where
     grows = begins_further old mid new first.grows second.grows;
     each = λ image left. ⊎_elim
         (λ early. first.each image early)
-        (λ late.
-        let from = second.each image late in
-        let now : images mid image = subst (images mid) (sym (from.2)) (from.1) in
-        first.each image (told_since mid image (length old) (grows_length old mid first.grows) now))
+        (λ late. first.each image (told_since mid image (length old) (grows_length old mid first.grows) (left_before mid new second image late)))
         (left_before_or_after mid new (length old) image second.grows left);
   }
 
@@ -61,8 +62,8 @@ module _ (images : Images) where
   pub synced_on : (old mid new : Told) (before then now : List Moment) → Syncs images old mid before then (Ok tt) → OnlyReads images mid new then now
       → ForSome new (λ told. (image : List ℕ) → images now image → image ≡ told)
   synced_on old mid new before then now syncs reads told is image left =
-      let from = reads.elapses.each image (told_since now image (length then) (grows_length then now reads.elapses.grows) left) in
-      from.2 ∙ syncs.synced told (sym (reads.bytes ∙ syncs.bytes) ∙ is) (from.0) (from.1)
+      syncs.synced told (sym (reads.bytes ∙ syncs.bytes) ∙ is) image
+      (left_before then now reads.elapses image (told_since now image (length then) (grows_length then now reads.elapses.grows) left))
 
   module _ (left : List ℕ → Type 0) where
     -- what a call makes of the images from before it
@@ -83,6 +84,13 @@ module _ (images : Images) where
   pub leaves_more : (left more : List ℕ → Type 0) (old new : List Moment) → ((image : List ℕ) → left image → more image)
       → LeavesOnly images left old new → LeavesOnly images more old new
   leaves_more left more old new to leaves = record { grows = leaves.grows; each = λ image since. to image (leaves.each image since) }
+
+  -- one call and one behind it, where what either leaves is of one kind
+  pub leaves_both : (first second left : List ℕ → Type 0) (old mid new : List Moment) → ((image : List ℕ) → first image → left image)
+      → ((image : List ℕ) → second image → left image) → LeavesOnly images first old mid → LeavesOnly images second mid new
+      → LeavesOnly images left old new
+  leaves_both first second left old mid new of_first of_second before after =
+      leaves_on left old mid new (leaves_more first left old mid of_first before) (leaves_more second left mid new of_second after)
 
   -- calls that only read, one behind the other
   pub elapses_none : (now : List Moment) → Elapses images Stays now now

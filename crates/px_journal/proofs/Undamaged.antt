@@ -1,11 +1,9 @@
 -- Bytes that stand for a text and a history are not damaged, and others are damaged at one place.
-use Rattle.std.proofs.Common.{rules, ◌≡◌, ◌≢◌, ◌≤◌, ◌<◌, ◌+◌, ◌^◌, ◌⊎◌, inl, inr, ⊎_elim, ℕ, false, List, [], length, take, drop, refl, sym, ◌∙◌, ap, subst, arith, IsTrue}
+use Rattle.std.proofs.Common.{rules, ◌≡◌, ◌≢◌, ◌≤◌, ◌<◌, ◌+◌, ◌⊎◌, inl, inr, ⊎_elim, ℕ, false, List, length, take, drop, refl, sym, ◌∙◌, ap, subst, arith, IsTrue}
 use Rattle.std.specs.Prelude.{slice_index}
-use Rattle.std.specs.Io.{StartsWith}
 use Rattle.std.proofs.lemmas.Bool.{cases_lt, false_from_ne_true}
-use Rattle.std.proofs.lemmas.List.{drop-drop, get_or-drop, get_or-take, append-nil}
+use Rattle.std.proofs.lemmas.List.{drop-drop, get_or-drop, get_or-take}
 use Rattle.byteorder.specs.Endian.{big_bytes, big_number}
-use Rattle.byteorder.specs.Numbers.{big_from-take, big_number-reads_back, length-bytes_high_first}
 use Rattle.px_event.specs.declared.entry.Entry.{Entry}
 use Rattle.px_event.specs.declared.named.NamedEntry.{NamedEntry}
 use Rattle.px_journal.specs.Damage.{body, body_length, text_length, DamagedRecord}
@@ -16,19 +14,10 @@ use Rattle.px_journal.specs.declared.version.Version.{Version}
 use Rattle.px_journal.proofs.Appending.{closed_within, gate_within}
 use Rattle.px_journal.proofs.Bodies.{body_short}
 use Rattle.px_journal.proofs.Histories.{length-heading, length-record}
-use Rattle.px_journal.proofs.Meaning.{Ahead, starts_first, starts_second, one_ahead, one_heading, one_version, has_version, text_starts, open_and_closed}
+use Rattle.px_journal.proofs.Meaning.{Ahead, spelled, starts_first, starts_second, one_ahead, one_heading, one_version, has_version, text_starts, open_and_closed}
 
 pub open_not_closed : (bytes : List ℕ) → IsTrue (is_open bytes) → is_closed bytes ≡ false
 open_not_closed bytes opened = false_from_ne_true (is_closed bytes) (open_and_closed bytes opened)
-
--- the number that is spelled at the front
-spelled : (n x : ℕ) (bytes : List ℕ) → x < 256 ^ n → StartsWith bytes (big_bytes n x) → big_number n bytes ≡ x
-spelled n x bytes fits starts =
-    let long = length-bytes_high_first n x in
-    sym (big_from-take 0 n n bytes (omega arith))
-    ∙ ap (λ (k : ℕ). big_number n (take k bytes)) (sym long)
-    ∙ ap (λ (l : List ℕ). big_number n l) (starts ∙ sym (append-nil (big_bytes n x)))
-    ∙ big_number-reads_back n x [] fits
 
 -- an open gate is within the bytes
 open_within : (gate : ℕ) (bytes : List ℕ) → IsTrue (is_open (drop gate bytes)) → gate < length bytes

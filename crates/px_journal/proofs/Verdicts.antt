@@ -4,10 +4,9 @@ use Rattle.std.specs.Prelude.{slice_index, IsFalse}
 use Rattle.std.proofs.lemmas.Bool.{both_ways, cases_lt, cases_eq, cases_Bool}
 use Rattle.std.proofs.lemmas.List.{take-take, take_more, length-take, length-drop, drop-drop, get_or-drop, get_or-take}
 use Rattle.byteorder.specs.Endian.{big_bytes}
-use Rattle.byteorder.specs.Numbers.{big_from-take}
 use Rattle.px_event.specs.declared.entry.Entry.{Entry}
 use Rattle.px_event.specs.declared.named.NamedEntry.{NamedEntry}
-use Rattle.px_event.proofs.Fields.{IsBytes, IsBytes-drop, IsBytes-take, two_back, four_back}
+use Rattle.px_event.proofs.Fields.{IsBytes, IsBytes-drop, IsBytes-take, two_back, four_back, front_spelled}
 use Rattle.px_journal.specs.Damage as Damage
 use Rattle.px_journal.specs.Damage.{body, body_length, text_length, IsNoBody}
 use Rattle.px_journal.specs.Damage.Damaged.{magic_differs, version_differs, text_is_cut, record_is}
@@ -28,13 +27,11 @@ part_bytes n k bytes fits = IsBytes-take n (drop k bytes) (IsBytes-drop k bytes 
 -- a length is spelled where it was read
 two_spelled : (bytes : List ℕ) → IsBytes bytes → 3 ≤ length bytes → take 2 (drop 1 bytes) ≡ big_bytes 2 (body_length bytes)
 two_spelled bytes fits long =
-    sym (two_back.back (take 2 (drop 1 bytes)) (omega (arith, long, length-take 2 (drop 1 bytes), length-drop 1 bytes)) (part_bytes 2 1 bytes fits))
-    ∙ ap (λ (n : ℕ). big_bytes 2 n) (big_from-take 0 2 2 (drop 1 bytes) (omega arith))
+    sym (front_spelled 2 two_back (drop 1 bytes) (IsBytes-drop 1 bytes fits) (omega (arith, long, length-drop 1 bytes)))
 
 pub four_spelled : (bytes : List ℕ) → IsBytes bytes → 13 ≤ length bytes → take 4 (drop 9 bytes) ≡ big_bytes 4 (text_length bytes)
 four_spelled bytes fits long =
-    sym (four_back.back (take 4 (drop 9 bytes)) (omega (arith, long, length-take 4 (drop 9 bytes), length-drop 9 bytes)) (part_bytes 4 9 bytes fits))
-    ∙ ap (λ (n : ℕ). big_bytes 4 n) (big_from-take 0 4 4 (drop 9 bytes) (omega arith))
+    sym (front_spelled 4 four_back (drop 9 bytes) (IsBytes-drop 9 bytes fits) (omega (arith, long, length-drop 9 bytes)))
 
 first_difference : (xs ys : List ℕ) → length xs ≡ length ys
     → (xs ≡ ys) ⊎ ((i : ℕ) × (i < length ys) × (take i xs ≡ take i ys) × (slice_index xs i ≢ slice_index ys i))

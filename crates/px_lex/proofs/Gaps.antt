@@ -7,11 +7,11 @@ use Rattle.std.specs.Str.{IsUtf8, IsCharBoundary}
 use Rattle.std.proofs.iter.AsciiBoundary.{before_ascii}
 use Rattle.std.proofs.lemmas.Bool.{cases_Bool, and_parts, not-false, eqb-true}
 use Rattle.std.proofs.lemmas.Bool.Decides.{nat_tests}
-use Rattle.std.proofs.lemmas.List.{take-append-drop}
+use Rattle.std.proofs.lemmas.List.{take-append-drop, take_rest}
 use Rattle.std.proofs.lemmas.List.Sums.{prefix_len-le-length, prefix_len_stops}
 use Rattle.std.proofs.lemmas.Option.{none-some}
 use Rattle.std.proofs.lemmas.Str.{IsCharBoundary-after_ascii}
-use Rattle.std.proofs.Math.Seq.{take-length, drop-append_seam, get_or-append_seam}
+use Rattle.std.proofs.Math.Seq.{drop-append_seam, get_or-append_seam}
 use Rattle.px_lex.specs.Gap.{begins, is_white_space, is_in_line, after_close, blank, line_comment, comment}
 use Rattle.px_lex.specs.Lexer.{Begins}
 use Rattle.px_lex.proofs.Cuts.{cut_behind}
@@ -57,8 +57,7 @@ line_begins text tail rest e r =
 
 -- /* up to its */
 pub behind_opening : (text tail : List ℕ) → text ≡ codes "/*" ++ tail → take (length text - 2) (drop 2 text) ≡ tail
-behind_opening text tail e =
-    ap (λ t. take (length t - 2) (drop 2 t)) e ∙ (let n : length (codes "/*" ++ tail) - 2 ≡ length tail = omega arith in ap (λ n. take n tail) n ∙ take-length tail)
+behind_opening text tail e = take_rest text 2 ∙ ap (drop 2) e
 
 pub closing : (tail rest : List ℕ) → after_close tail ≡ Some rest → (front : List ℕ) × (tail ≡ front ++ (47 ∷ rest))
 closing [] rest h = cc

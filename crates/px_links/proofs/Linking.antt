@@ -93,21 +93,15 @@ module _ (next before : ℕ → Option ℕ) where
   ]
 
   -- no cell of a list leads on to itself
-  no_loop : (ahead first : Option ℕ) (list : List ℕ) (last : Option ℕ) (cell : ℕ)
-      → AreLinked next before ahead first list last → first ≡ Some cell → next cell ≡ Some cell → ⊥
-  no_loop ahead first [] last cell linked is loops = cc
-  no_loop ahead first (head ∷ list) last cell linked is loops =
-      let same : head ≡ cell = cc in
-      no_loop (Some head) (next head) list last cell linked.2 (ap next same ∙ loops) loops
-
   pub leads_apart : (ahead first : Option ℕ) (list : List ℕ) (last : Option ℕ) (cell : ℕ)
       → AreLinked next before ahead first list last → has list cell ≡ true → next cell ≡ Some cell → ⊥
   leads_apart ahead first [] last cell linked has_it loops = absurd (cc)
-  leads_apart ahead first (head ∷ list) last cell linked has_it loops = elim (eqb_tells cell head) [
-    | inl same ↦ no_loop ahead first (head ∷ list) last cell linked (linked.0 ∙ ap Some (sym same.1)) loops
-    | inr apart ↦ leads_apart (Some head) (next head) list last cell linked.2
-        (sym (ap (λ b. b || has list cell) apart.0) ∙ has_it) loops
-  ]
+  leads_apart ahead first (head ∷ list) last cell linked has_it loops =
+      leads_apart (Some head) (next head) list last cell linked.2 (elim (eqb_tells cell head) [
+        | inl same ↦ first_has list cell
+            (sym (linked_first (Some head) (next head) list last linked.2) ∙ ap next (sym same.1) ∙ loops)
+        | inr apart ↦ sym (ap (λ b. b || has list cell) apart.0) ∙ has_it
+      ]) loops
 
   -- the last one leads nowhere
   last_leads : (ahead first : Option ℕ) (head : ℕ) (list : List ℕ) (last : Option ℕ) (cell : ℕ)

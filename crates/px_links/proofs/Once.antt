@@ -1,7 +1,8 @@
 -- No cell of a table is at two places.
-use Rattle.std.proofs.Common.{◌≡◌, ◌≢◌, ℕ, suc, true, ◌||◌, nat_eq, List, [], ◌∷◌, length, get_or, AllPairs, refl, ap, sym, ◌∙◌, arith, inl, inr}
+use Rattle.std.proofs.Common.{◌≡◌, ◌≢◌, ℕ, zero, suc, ◌+◌, true, ◌||◌, nat_eq, List, [], ◌∷◌, length, get_or, AllPairs, refl, ap, sym, ◌∙◌, arith, inl, inr}
 use Rattle.std.specs.List.{concat}
 use Rattle.std.proofs.lemmas.Bool.{eq-eqb, cases_Bool}
+use Rattle.std.proofs.lemmas.List.{get_or-append-add, get_or_append_left, length-append}
 use Rattle.std.proofs.lemmas.List.Folds.{list_any-append, list_any_at}
 use Rattle.px_value.proofs.General.{pairs_append}
 use Rattle.px_links.specs.declared.cell.Cell.{Cell}
@@ -36,6 +37,18 @@ once-concat (first ∷ lists) once one = pairs_append (λ a b. a ≢ b) first (c
     let behind = concat_has lists cell (list_any_at (nat_eq cell) (concat lists) j d far (eq-eqb cell _ is)) in
     let same : 0 ≡ suc behind.0 = one 0 (suc behind.0) cell here behind.1 in
     omega arith)
+
+-- what stands once in all lists together stands once in each
+pub once-nth : (lists : List (List ℕ)) (list : ℕ) → AllPairs (λ a b. a ≢ b) (concat lists) → AllPairs (λ a b. a ≢ b) (nth lists list)
+once-nth [] list once = λ i j d before below. absurd (omega arith)
+once-nth (first ∷ lists) zero once = λ i j d before below same.
+    once i j d before (omega (arith, below, length-append first (concat lists)))
+    (get_or_append_left first (concat lists) d i (omega (arith, before, below)) ∙ same
+    ∙ sym (get_or_append_left first (concat lists) d j below))
+once-nth (first ∷ lists) (suc list) once = once-nth lists list (λ i j d before below same.
+    once (length first + i) (length first + j) d (omega (arith, before))
+    (omega (arith, below, length-append first (concat lists)))
+    (get_or-append-add first (concat lists) i d ∙ same ∙ sym (get_or-append-add first (concat lists) j d)))
 
 pub table-once : (cells : List Cell) (ends : List Ends) (lists : List (List ℕ)) → IsTable cells ends lists
     → IsOnce (record { cells = length cells; lists = lists })

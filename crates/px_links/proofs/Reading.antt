@@ -2,14 +2,14 @@
 use Rattle.std.proofs.Common.{◌≡◌, ℕ, ◌<◌, ◌-◌, true, false, ◌||◌, List, [], ◌∷◌, length, drop, set, get_or, slice_get, Option, Some, None, IfSome, refl, ap, sym, ◌∙◌, subst, arith, inl, inr}
 use Rattle.std.specs.List.{position, position_or_len}
 use Rattle.std.specs.Option.{option_and_then}
-use Rattle.std.proofs.lemmas.Bool.{eq-eqb, ne_eqb, lt-ltb, le-ltb, cases_Bool}
+use Rattle.std.proofs.lemmas.Bool.{eq-eqb, ne_eqb, le-ltb, cases_Bool}
 use Rattle.std.proofs.lemmas.Bool.Decides.{eqb_tells}
 use Rattle.std.proofs.lemmas.List.{get_or_default, get_or-set_same, get_or-set_other, length-set, length-map, ext_get_or}
 use Rattle.std.proofs.Math.ListN.{get_or-map}
 use Rattle.std.proofs.lemmas.Grind.{common_steps}
 use Rattle.std.proofs.lemmas.List.Sums.{position_or_len_is}
 use Rattle.px_value.specs.General.{is_number}
-use Rattle.px_value.proofs.General.{passes_within}
+use Rattle.px_value.proofs.General.{passes_within, position_is}
 use Rattle.px_links.specs.declared.cell.Cell.{Cell}
 use Rattle.px_links.specs.declared.cell.Ends.{Ends}
 use Rattle.px_links.specs.declared.links.Links.TheInside.{Inside}
@@ -30,11 +30,8 @@ holder_position lists cell None held =
     rw (none, le-ltb (length lists) (length lists) (omega arith)) refl
 holder_position lists cell (Some at) held =
     let has_it : has (nth lists at) cell ≡ true = sym (held at) ∙ eq-eqb at at refl in
-    let below : at < length lists = passes_within (λ list. has list cell) lists at [] refl has_it in
-    let here : position_or_len (λ list. has list cell) lists ≡ at =
-    position_or_len_is (λ list. has list cell) lists at [] (omega arith)
-    (λ k before. sym (held k) ∙ ne_eqb at k (omega arith)) (λ past. has_it) in
-    rw (here, lt-ltb at (length lists) below) refl
+    position_is (λ list. has list cell) lists at [] (passes_within (λ list. has list cell) lists at [] refl has_it)
+    (λ k before. sym (held k) ∙ ne_eqb at k (omega arith)) has_it
 
 module _ (cells : List Cell) (ends : List Ends) (lists : List (List ℕ)) (table : IsTable cells ends lists) where
   pub holder-read : (cell : ℕ) → position (λ list. has list cell) lists ≡ (cell_at cells cell).holder

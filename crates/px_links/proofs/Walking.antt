@@ -13,8 +13,8 @@ use Rattle.px_links.specs.Links.{LinksData, rest_of, holder_of, first_of, last_o
 use Rattle.px_links.specs.Lists.{has, behind, from_cell, nth}
 use Rattle.px_links.specs.Keeping.{IsKept, links_data}
 use Rattle.px_links.proofs.Linking.{first_has, number_here, here_number, if_some}
-use Rattle.px_links.proofs.Reading.{holder-read, first-read, last-read}
-use Rattle.px_links.proofs.Tables.{first_in, last_in}
+use Rattle.px_links.proofs.Reading.{holder-read, last-read, first_held}
+use Rattle.px_links.proofs.Tables.{last_in}
 
 -- from one on, or none
 abbrev from_at : List ℕ → Option ℕ → List ℕ
@@ -79,7 +79,7 @@ module _ (links : Inside) (now : LinksData) (view : links_data links ≡ now) (k
 
   first-holder : (list : ℕ) → IfSome (first_of table list) (λ cell. holder_of table cell ≡ Some list)
   first-holder list = if_some (first_of table list) (λ cell is.
-      held-in list cell (first_in cells ends table.lists kept list cell (first-read cells ends table.lists kept list ∙ is)))
+      holder-read cells ends table.lists kept cell ∙ (first_held links table refl kept list cell is).0)
 
   last-holder : (list : ℕ) → IfSome (last_of table list) (λ cell. holder_of table cell ≡ Some list)
   last-holder list = if_some (last_of table list) (λ cell is.

@@ -6,12 +6,12 @@ use Rattle.std.specs.List.{position}
 use Rattle.std.proofs.lemmas.Bool.{cases_lt, eq-eqb}
 use Rattle.std.proofs.lemmas.Bool.Decides.{eqb_tells}
 use Rattle.std.proofs.lemmas.List.{get_or_append_left, get_or_default, get_or-set_same, get_or-set_other, length-map, length-set, map-append, map-set}
-use Rattle.std.proofs.lemmas.List.Elements.{All-head, All-push, All-set, All-tail, All-weaker}
+use Rattle.std.proofs.lemmas.List.Elements.{All-push, All-set, All-weaker}
 use Rattle.std.proofs.lemmas.List.Folds.{list_any_at, list_any_none}
 use Rattle.std.proofs.lemmas.List.Sums.{sum_by-set}
 use Rattle.std.proofs.Math.ListN.{get_or-map}
 use Rattle.std.proofs.Math.Seq.{get_or-append_seam}
-use Rattle.px_value.proofs.General.{nowhere, once_push, read_anywhere}
+use Rattle.px_value.proofs.General.{map-same, nowhere, once_push, read_anywhere}
 use Rattle.px_links.specs.Links.{LinksData, HoldsOthersAsBefore, holder_of, is_absent, pushed}
 use Rattle.px_links.specs.Lists.{has, nth}
 use Rattle.px_listen.specs.Keeping.{ArePairs, listening}
@@ -28,17 +28,15 @@ none-has lists cell none list =
 -- a watcher more leaves those of the cells before
 same-watchers : (watcher_of : List ℕ) (watcher : ℕ) (cells : List ℕ) → All (λ cell. cell < length watcher_of) cells
     → watchers_in (watcher_of ++ watcher ∷ []) cells ≡ watchers_in watcher_of cells
-same-watchers watcher_of watcher [] below = refl
-same-watchers watcher_of watcher (cell ∷ cells) below = λ i.
-    get_or_append_left watcher_of (watcher ∷ []) 0 cell (All-head (λ cell. cell < length watcher_of) cell cells below) i
-    ∷ same-watchers watcher_of watcher cells (All-tail (λ cell. cell < length watcher_of) cell cells below) i
+same-watchers watcher_of watcher cells below =
+    map-same (λ cell. get_or (watcher_of ++ watcher ∷ []) cell 0) (λ cell. get_or watcher_of cell 0) cells
+    (λ k d within. get_or_append_left watcher_of (watcher ∷ []) 0 (get_or cells k d) (below k d within))
 
 all-same : (watcher_of : List ℕ) (watcher : ℕ) (lists : List (List ℕ)) → All (All (λ cell. cell < length watcher_of)) lists
     → map (watchers_in (watcher_of ++ watcher ∷ [])) lists ≡ map (watchers_in watcher_of) lists
-all-same watcher_of watcher [] below = refl
-all-same watcher_of watcher (cells ∷ lists) below = λ i.
-    same-watchers watcher_of watcher cells (All-head (All (λ cell. cell < length watcher_of)) cells lists below) i
-    ∷ all-same watcher_of watcher lists (All-tail (All (λ cell. cell < length watcher_of)) cells lists below) i
+all-same watcher_of watcher lists below =
+    map-same (watchers_in (watcher_of ++ watcher ∷ [])) (watchers_in watcher_of) lists
+    (λ k d within. same-watchers watcher_of watcher (get_or lists k d) (below k d within))
 
 -- with one more there is one pair more
 pub pairs-more : (listeners : ListenData) (source watcher : ℕ) → source < length listeners.dependents

@@ -13,7 +13,7 @@ use Rattle.px_assign.specs.Conflicts.{is_writer}
 use Rattle.px_told.specs.declared.asks.Asks.{Asks}
 use Rattle.px_told.specs.Told.{told_at}
 use Rattle.px_tables.specs.Reading.{read_by}
-use Rattle.px_tables.proofs.Readings.{dest_read}
+use Rattle.px_tables.proofs.Readings.{dest_same}
 use Rattle.px_parts.specs.declared.parts.Parts.{Parts}
 use Rattle.px_parts.specs.Parts.{AreStanding, plan_in, world_in, record_of}
 use Rattle.px_micro.specs.declared.truths.Truths.{Truths}
@@ -80,9 +80,8 @@ pub dest_by_read : (state : NodeState) (kind : Kind) (r : NodeRecord) (parent : 
     → dest kind state (guards_in kind r parent asked rest (truths_read state truths))
     ≡ dest kind state (guards_in kind r parent asked rest truths)
 dest_by_read state kind r parent asked rest truths =
-    sym (dest_read kind state (guards_in kind r parent asked rest (truths_read state truths)))
-    ∙ ap (dest kind state) (guards_read state kind r parent asked rest truths)
-    ∙ dest_read kind state (guards_in kind r parent asked rest truths)
+    dest_same kind state (guards_in kind r parent asked rest (truths_read state truths)) (guards_in kind r parent asked rest truths)
+    (guards_read state kind r parent asked rest truths)
 
 -- ---- the present
 

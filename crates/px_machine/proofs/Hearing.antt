@@ -1,14 +1,13 @@
 -- Which reports an event changes: those of the name that is heard of, at most.
-use Rattle.std.proofs.Common.{◌≡◌, ◌≢◌, ℕ, ◌<◌, Bool, true, false, not, ◌&&◌, cond, [], ◌∷◌, ◌++◌, position, List, length, get_or, Option, Some, None, AllPairs, nat_lt, refl, ap, sym, ◌∙◌, subst, arith, if◌then◌else◌}
+use Rattle.std.proofs.Common.{◌≡◌, ◌≢◌, ℕ, ◌<◌, Bool, true, false, not, ◌&&◌, cond, [], ◌∷◌, ◌++◌, position, List, length, get_or, Option, Some, None, AllPairs, refl, ap, sym, ◌∙◌, subst, arith, if◌then◌else◌}
 use Rattle.std.specs.Cmp.Lexicographic.{pointwise, same_text}
-use Rattle.std.specs.List.{flat_map, list_any, position_or_len}
+use Rattle.std.specs.List.{flat_map, list_any}
 use Rattle.std.specs.Option.{option_and_then, option_map, unwrap_or}
-use Rattle.std.proofs.lemmas.Bool.{and_parts, cond_both, false_from_ne_true, lt-ltb}
-use Rattle.std.proofs.lemmas.List.Sums.{position_or_len_is}
+use Rattle.std.proofs.lemmas.Bool.{and_parts, cond_both, false_from_ne_true}
 use Rattle.px_value.specs.declared.value.Value.{Value}
 use Rattle.px_value.specs.declared.value.Value.TheVariants.{Unknown}
 use Rattle.px_value.specs.Value.{is_known}
-use Rattle.px_value.proofs.General.{once_push}
+use Rattle.px_value.proofs.General.{once_push, position_is}
 use Rattle.px_core.specs.Plan.{Site, is_same}
 use Rattle.px_core.proofs.Paths.{same-self, same-other}
 use Rattle.px_event.specs.declared.event.Event.{Event}
@@ -49,13 +48,10 @@ number_is : (plan : List Site) (name : List ℕ) (number : ℕ) → number < len
     → is_same name (get_or (lookups_of plan) number []) ≡ true → position (is_same name) (lookups_of plan) ≡ Some number
 number_is plan name number within same =
     let names : List (List ℕ) = lookups_of plan in
-    let first : position_or_len (is_same name) names ≡ number =
-    position_or_len_is (is_same name) names number [] (omega (arith, within))
+    position_is (is_same name) names number [] within
     (λ k before. same-other name (get_or names k []) (λ is.
     names_differ plan k number [] before within (sym is ∙ same_text name (get_or names number []) (sym same))))
-    (λ inside. same) in
-    ap (λ k. cond (nat_lt k (length names)) (Some k) None) first
-    ∙ ap (λ b. cond b (Some number) None) (lt-ltb number (length names) within)
+    same
 
 -- ---- reports
 

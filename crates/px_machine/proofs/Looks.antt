@@ -1,8 +1,8 @@
 -- How far a look over the woken nodes has come.
-use Rattle.std.proofs.Common.{◌≡◌, ◌≢◌, ℕ, suc, ◌+◌, ◌<◌, Bool, true, false, [], ◌∷◌, ◌++◌, append-nil, List, length, get_or, Option, Some, None, All, AllPairs, Contains, IsSome, map, refl, ap, sym, ◌∙◌, subst, arith, inl, inr, if◌then◌else◌}
-use Rattle.std.specs.List.{concat, cons_option}
-use Rattle.std.proofs.lemmas.Bool.{cases_eq, eqb-true, false≢true, true_from_ne_false}
-use Rattle.std.proofs.lemmas.List.{get_or-append-add, get_or_append_left, get_or-set_other, length-append, length-set, map-append}
+use Rattle.std.proofs.Common.{◌≡◌, ◌≢◌, ℕ, suc, ◌<◌, Bool, true, false, [], ◌∷◌, ◌++◌, append-nil, List, length, get_or, Option, Some, None, All, AllPairs, Contains, IsSome, map, refl, ap, sym, ◌∙◌, subst, arith, inl, inr, if◌then◌else◌}
+use Rattle.std.specs.List.{cons_option}
+use Rattle.std.proofs.lemmas.Bool.{cases_eq, eqb-true, false≢true}
+use Rattle.std.proofs.lemmas.List.{get_or-set_other, length-set, map-append}
 use Rattle.std.proofs.lemmas.List.Elements.{All-nil, All-push, Contains-append_left, Contains-append_right}
 use Rattle.std.proofs.lemmas.List.Quantifiers.{all_pairs_push, position-Some}
 use Rattle.std.proofs.lemmas.Map.Made.{Contains-tail}
@@ -30,7 +30,7 @@ use Rattle.px_machine.specs.Still.{claims_now, free_arrival, is_marked}
 use Rattle.px_machine.proofs.Arrivals.{HasTheSame, arrival_now, parent_same, same_claims, same_free}
 use Rattle.px_machine.proofs.Changing.{still_same}
 use Rattle.px_machine.proofs.Choosing.{claims_are, writer_loses}
-use Rattle.px_machine.proofs.Waiting.{in_one_of_two}
+use Rattle.px_machine.proofs.Waiting.{waits_nowhere}
 
 -- the marks of all nodes but those ahead are exact, and these are all of them that go without asking for a variable
 pub record HaveLookedBut (parts : Parts) (kept : Kept) (going : List Going) (ahead : List ℕ) : Type 0 where
@@ -79,12 +79,9 @@ looked_at_none parts kept right nobody = record {
 }
   where
     absent : (node : ℕ) → (Contains (nth kept.queue.lists 1) node → ⊥) → is_absent kept.queue node ≡ true
-    absent node apart = true_from_ne_false (is_absent kept.queue node) (λ waits.
-        elim (in_one_of_two kept.queue node right.of_plan.lists waits) [
-          | inl behind ↦ nobody node behind
-          | inr woken ↦ apart (Contains-from_any eqb-true node (nth kept.queue.lists 1)
-              (position-Some (λ cells. has cells node) kept.queue.lists 1 [] woken).1)
-        ])
+    absent node apart = waits_nowhere kept.queue node right.of_plan.lists (nobody node) (λ woken.
+        apart (Contains-from_any eqb-true node (nth kept.queue.lists 1)
+        (position-Some (λ cells. has cells node) kept.queue.lists 1 [] woken).1))
 
 -- ---- one more
 
@@ -209,17 +206,6 @@ now_with_mark parts old new node now same =
     subst (IsNow parts) (sym same.1) (record { seen = now.seen; fresh = now.fresh; nobody = now.nobody })
 
 -- ---- no node is woken twice
-
-pub woken_once : (lists : List (List ℕ)) → AllPairs (λ a b. a ≢ b) (concat lists) → AllPairs (λ a b. a ≢ b) (nth lists 1)
-woken_once [] apart i j d before inside same = omega (arith, inside)
-woken_once (first ∷ []) apart i j d before inside same = omega (arith, inside)
-woken_once (first ∷ cells ∷ rest) apart i j d before inside same =
-    apart (length first + i) (length first + j) d (omega (arith, before))
-    (omega (arith, inside, length-append first (cells ++ concat rest), length-append cells (concat rest)))
-    (at i (omega (arith, before, inside)) ∙ same ∙ sym (at j inside))
-  where
-    at : (k : ℕ) → k < length cells → get_or (first ++ (cells ++ concat rest)) (length first + k) d ≡ get_or cells k d
-    at k within = get_or-append-add first (cells ++ concat rest) k d ∙ get_or_append_left cells (concat rest) d k within
 
 pub others_once : (node : ℕ) (ahead : List ℕ) → AllPairs (λ a b. a ≢ b) (node ∷ ahead) → AllPairs (λ a b. a ≢ b) ahead
 others_once node ahead apart i j d before inside = apart (suc i) (suc j) d (omega (arith, before)) (omega (arith, inside))

@@ -1,11 +1,7 @@
 -- News that is noted: what isn't noted is as it was seen.
-use Rattle.std.proofs.Common.{◌≡◌, ◌⊎◌, ℕ, ◌+◌, ◌<◌, Bool, true, false, [], ◌∷◌, ◌++◌, length, List, Contains, All, get_or, None, slice_get, nat_eq, refl, ap, sym, ◌∙◌, subst, arith, inl, inr}
-use Rattle.std.specs.Cmp.{nat_eq_equiv}
-use Rattle.std.specs.List.{list_any}
+use Rattle.std.proofs.Common.{◌≡◌, ◌⊎◌, ℕ, ◌+◌, ◌<◌, true, false, [], ◌∷◌, ◌++◌, length, List, Contains, All, get_or, None, slice_get, refl, ap, sym, ◌∙◌, subst, arith, inl, inr}
 use Rattle.std.specs.Option.{unwrap_or}
-use Rattle.std.proofs.lemmas.Bool.{eqb-true}
 use Rattle.std.proofs.lemmas.List.Elements.{All-contains, All-push}
-use Rattle.std.proofs.lemmas.Map.Views.{Contains-from_any, list_any-from_Contains}
 use Rattle.std.proofs.lemmas.Option.{unwrap_or-slice_get}
 use Rattle.px_value.specs.declared.value.Value.{Value}
 use Rattle.px_core.specs.declared.conditions.ConditionKind.{ConditionKind}
@@ -38,7 +34,7 @@ use Rattle.px_machine.specs.Queue.{FallBehind, IsBehind, NobodyIsWoken}
 use Rattle.px_machine.specs.Right.{IsRight}
 use Rattle.px_machine.specs.Seen.{IsSeen}
 use Rattle.px_machine.proofs.Framing.{IsFramed, right_framed}
-use Rattle.px_machine.proofs.Waiting.{falls_both, in_one_of_two, none_woken, still_behind}
+use Rattle.px_machine.proofs.Waiting.{among_or_not, falls_both, in_one_of_two, none_woken, still_behind}
 
 -- where nobody is woken, whoever waits at all is behind
 pub all_behind : (kept : Kept) (node : ℕ) → length kept.queue.lists ≡ 2 → NobodyIsWoken kept.queue
@@ -57,11 +53,10 @@ same_at xs ys k d same =
 same_or : {X : Type 0} (now seen : List X) (news : List ℕ) (d : X)
     → ((k : ℕ) → (Contains news k → ⊥) → slice_get now k ≡ slice_get seen k) → (k : ℕ)
     → (get_or now k d ≡ get_or seen k d) ⊎ Contains news k
-same_or now seen news d others k = by (list_any (nat_eq k) news) refl
-  where
-    by : (among : Bool) → list_any (nat_eq k) news ≡ among → (get_or now k d ≡ get_or seen k d) ⊎ Contains news k
-    by true is = inr (Contains-from_any eqb-true k news is)
-    by false is = inl (same_at now seen k d (others k (λ there. absurd (cc (sym (list_any-from_Contains nat_eq_equiv k news there) ∙ is)))))
+same_or now seen news d others k = elim (among_or_not news k) [
+  | inl there ↦ inr there
+  | inr apart ↦ inl (same_at now seen k d (others k apart))
+]
 
 -- ---- one cell more, or one act
 

@@ -40,12 +40,12 @@ use Rattle.px_machine.specs.Begun.{IsMarkedFor, IsUnderWay, begun_in, heard_of, 
 use Rattle.px_machine.specs.Hearing.{HasHeard, heard_by}
 use Rattle.px_machine.specs.Kept.{own_in}
 use Rattle.px_machine.specs.Machine.{state_with}
-use Rattle.px_machine.specs.Queue.{HaveGone, HaveRested}
+use Rattle.px_machine.specs.Queue.{HaveGone}
 use Rattle.px_machine.specs.Right.{IsRight}
 use Rattle.px_machine.specs.Stepping.{HasChosen, IsReady}
 use Rattle.px_machine.proofs.Framing.{right_framed}
 use Rattle.px_machine.proofs.Hearing.{others_stay, seen_then}
-use Rattle.px_machine.proofs.Requeueing.{right_after_going, right_after_rest, with_queue}
+use Rattle.px_machine.proofs.Requeueing.{right_after_going, with_queue}
 
 -- ---- parts
 
@@ -184,13 +184,6 @@ pub ready_gone : (old new : Parts) (kept : Kept) (queue : LinksData) (going : Li
 ready_gone old new kept queue going ready chosen gone plan seen stand reports =
     ready_still old new (with_queue kept queue)
     (ready_queued old kept queue ready (right_after_going old kept queue going ready.right chosen gone)) plan seen stand reports
-
-pub ready_rested : (old new : Parts) (kept : Kept) (queue : LinksData) → IsReady old kept → HasChosen old kept []
-    → HaveRested kept.queue queue → plan_in new ≡ plan_in old → AreSeenAsBefore old new → AreStanding new
-    → new.reports.reports ≡ old.reports.reports → IsReady new (with_queue kept queue)
-ready_rested old new kept queue ready chosen rested plan seen stand reports =
-    ready_still old new (with_queue kept queue)
-    (ready_queued old kept queue ready (right_after_rest old kept queue ready.right chosen rested)) plan seen stand reports
 
 -- ---- marks
 

@@ -1,5 +1,5 @@
 -- What is kept, with another queue: what speaks of no queue stays.
-use Rattle.std.proofs.Common.{◌≡◌, ℕ, ◌<◌, true, List, [], length, is_none, ap, sym, ◌∙◌, subst, arith, inl, inr}
+use Rattle.std.proofs.Common.{◌≡◌, ℕ, ◌<◌, true, List, length, is_none, ap, sym, ◌∙◌, subst, inl, inr}
 use Rattle.std.proofs.lemmas.Bool.{cases_eq}
 use Rattle.px_core.specs.Plan.{Site}
 use Rattle.px_links.specs.Links.{LinksData, is_absent, SameCounts}
@@ -9,7 +9,7 @@ use Rattle.px_parts.specs.Parts.{plan_in}
 use Rattle.px_micro.specs.declared.sight.Going.{Going}
 use Rattle.px_machine.specs.declared.kept.Kept.{Kept}
 use Rattle.px_machine.specs.Kept.{IsOfPlan}
-use Rattle.px_machine.specs.Queue.{HasPassed, HaveGone, HaveRested, IsBehind}
+use Rattle.px_machine.specs.Queue.{HasPassed, HaveGone, IsBehind}
 use Rattle.px_machine.specs.Right.{IsRight}
 use Rattle.px_machine.specs.Stepping.{HasChosen}
 use Rattle.px_machine.specs.Still.{IsStill}
@@ -70,16 +70,10 @@ right_after_pass parts kept queue node right caught passed =
       | inr differs ↦ right.still other here (ap is_none (sym (passed.others other differs)) ∙ absent)
     ])
 
--- ---- those that go have gone, or none goes
+-- ---- those that go have gone
 
 pub right_after_going : (parts : Parts) (kept : Kept) (queue : LinksData) (going : List Going) → IsRight parts kept
     → HasChosen parts kept going → HaveGone kept.queue queue going → IsRight parts (with_queue kept queue)
 right_after_going parts kept queue going right chosen gone =
     requeued parts kept queue right gone.counts (λ node here apart. right.caught_up node here (chosen.nobody node))
     (λ node here absent. chosen.others node here (λ goes. not_both queue node 0 (gone.gone node goes) absent))
-
-pub right_after_rest : (parts : Parts) (kept : Kept) (queue : LinksData) → IsRight parts kept → HasChosen parts kept []
-    → HaveRested kept.queue queue → IsRight parts (with_queue kept queue)
-right_after_rest parts kept queue right chosen rested =
-    requeued parts kept queue right rested.counts (λ node here apart. right.caught_up node here (chosen.nobody node))
-    (λ node here absent. chosen.others node here (λ goes. omega (arith, goes.1)))

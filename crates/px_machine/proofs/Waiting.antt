@@ -2,7 +2,7 @@
 use Rattle.std.proofs.Common.{◌≡◌, ◌≢◌, ◌⊎◌, ℕ, ◌<◌, Bool, true, false, nat_eq, List, [], ◌∷◌, ◌++◌, length, map, Contains, Option, Some, None, is_none, refl, ap, sym, ◌∙◌, subst, arith, inl, inr, if◌then◌else◌}
 use Rattle.std.specs.Cmp.{nat_eq_equiv}
 use Rattle.std.specs.List.{list_any}
-use Rattle.std.proofs.lemmas.Bool.{cases_eq, cases_lt, eqb-true, false≢true, ne_eqb}
+use Rattle.std.proofs.lemmas.Bool.{cases_Bool, cases_eq, cases_lt, eqb-true, false≢true, ne_eqb, true_from_ne_false}
 use Rattle.std.proofs.lemmas.List.{get_or-set_other, map-append}
 use Rattle.std.proofs.lemmas.List.Elements.{Contains-append_left, Contains-append_right, Contains-push_cases}
 use Rattle.std.proofs.lemmas.List.Quantifiers.{position-Some}
@@ -12,7 +12,7 @@ use Rattle.px_links.specs.Lists.{has}
 use Rattle.px_cached.specs.Adding.{AddsTo}
 use Rattle.px_cached.proofs.OneList.{adds_both, elsewhere, holders_then, kept_here, not_both, pushed_here}
 use Rattle.px_micro.specs.declared.sight.Going.{Going}
-use Rattle.px_machine.specs.Queue.{FallBehind, HaveGone, IsBehind, IsWoken, NobodyIsWoken, Wakes, behind_in}
+use Rattle.px_machine.specs.Queue.{FallBehind, HaveGone, HaveRested, IsBehind, IsWoken, NobodyIsBehind, NobodyIsWoken, Wakes, behind_in}
 
 -- who waits at all waits in one of the two
 pub in_one_of_two : (queue : LinksData) (node : ℕ) → length queue.lists ≡ 2 → is_absent queue node ≡ false
@@ -33,6 +33,15 @@ in_one_of_two queue node lists waits = by (holder_of queue node) refl
               let second : list ≡ 1 = omega (arith, not_below, inside, lists) in
               inr (is ∙ ap Some second)
         ]
+
+-- who is neither behind nor woken waits nowhere
+pub waits_nowhere : (queue : LinksData) (node : ℕ) → length queue.lists ≡ 2 → (IsBehind queue node → ⊥) → (IsWoken queue node → ⊥)
+    → is_absent queue node ≡ true
+waits_nowhere queue node lists not_behind not_woken = true_from_ne_false (is_absent queue node) (λ waits.
+    elim (in_one_of_two queue node lists waits) [
+      | inl behind ↦ not_behind behind
+      | inr woken ↦ not_woken woken
+    ])
 
 -- who was behind is
 pub still_behind : (old new : LinksData) (list node : ℕ) → AddsTo list old new → IsBehind old node → IsBehind new node
@@ -84,20 +93,34 @@ push_wakes old new cell holders links counts = record {
 
 -- ---- those that have gone are behind
 
+-- a number is among some, or it isn't
+pub among_or_not : (numbers : List ℕ) (number : ℕ) → Contains numbers number ⊎ (Contains numbers number → ⊥)
+among_or_not numbers number = elim (cases_Bool (list_any (nat_eq number) numbers)) [
+  | inl is ↦ inl (Contains-from_any eqb-true number numbers is)
+  | inr is ↦ inr (λ there. false≢true (sym is ∙ list_any-from_Contains nat_eq_equiv number numbers there))
+]
+
 abbrev pub nodes_of : List Going → List ℕ
 nodes_of going = map (λ (one : Going). one.node) going
+
+-- where nobody was behind, nobody waits after the rest
+pub none_gone : (old new : LinksData) → HaveRested old new → NobodyIsBehind old → length old.lists ≡ 2 → HaveGone old new []
+none_gone old new rested nobody lists = record {
+  gone = λ node goes. absurd (omega (arith, goes.1));
+  others = λ node apart. waits_nowhere new node (rested.counts.1 ∙ lists) (λ behind. elim (rested.each node) [
+    | inl same ↦ nobody node (sym same ∙ behind)
+    | inr was ↦ not_both new node 0 behind was.1
+  ]) (rested.nobody node);
+  counts = rested.counts;
+}
 
 -- whoever waits has gone, and is behind
 gone_behind : (first queue : LinksData) (some : List Going) (node : ℕ) → HaveGone first queue some → is_absent queue node ≡ false
     → IsBehind queue node
-gone_behind first queue some node gone waits = by (list_any (nat_eq node) (nodes_of some)) refl
-  where
-    by : (goes : Bool) → list_any (nat_eq node) (nodes_of some) ≡ goes → IsBehind queue node
-    by true is = gone.gone node (Contains-from_any eqb-true node (nodes_of some) is)
-    by false is =
-        let absent : is_absent queue node ≡ true =
-        gone.others node (λ goes. absurd (false≢true (sym is ∙ list_any-from_Contains nat_eq_equiv node (nodes_of some) goes))) in
-        absurd (false≢true (sym waits ∙ absent))
+gone_behind first queue some node gone waits = elim (among_or_not (nodes_of some) node) [
+  | inl goes ↦ gone.gone node goes
+  | inr apart ↦ absurd (false≢true (sym waits ∙ gone.others node apart))
+]
 
 module _ (first old new : LinksData) (some : List Going) (one : Going) (gone : HaveGone first old some)
     (holders : HoldsOthersAsBefore old new one.node (if is_absent old one.node then Some 0 else holder_of old one.node))

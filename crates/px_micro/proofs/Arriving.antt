@@ -74,13 +74,12 @@ turn_length plan cells turn =
 pub turn_acts_length : (under : List Act) (turn : Turn) → length (with_turn_act under turn) ≡ length under
 turn_acts_length under turn = grind (arith, common_steps, length-set)
 
--- a cell that is none of the node's
-pub turn_off : (plan : List Site) (cells : List Value) (turn : Turn) (cell : ℕ)
-    → ((part : ℕ) → part < 5 → cell ≢ node_cell plan turn.going.node + part)
-    → held (with_turn plan cells turn) cell ≡ held cells cell
-turn_off plan cells turn cell apart =
-    by turn.under_way
-    ∙ elsewhere (set (set cells s to) o outcome) f cell failure (apart 2 (omega arith))
+-- a cell that is none of those that say where the node arrives
+arrived_off : (plan : List Site) (cells : List Value) (turn : Turn) (cell : ℕ)
+    → ((part : ℕ) → part < 3 → cell ≢ node_cell plan turn.going.node + part)
+    → held (arrived plan cells turn) cell ≡ held cells cell
+arrived_off plan cells turn cell apart =
+    elsewhere (set (set cells s to) o outcome) f cell failure (apart 2 (omega arith))
     ∙ elsewhere (set cells s to) o cell outcome (apart 1 (omega arith))
     ∙ elsewhere cells s cell to (λ same. apart 0 (omega arith) (omega (arith, same)))
   where
@@ -105,19 +104,36 @@ turn_off plan cells turn cell apart =
     failure : Value
     failure = failure_value turn.going.arrival.failure
 
-    by : (way : UnderWay) → held (with_said plan node way (arrived plan cells turn)) cell ≡ held (arrived plan cells turn) cell
-    by under_way.Kept = refl
-    by (under_way.Begun act) =
-        elsewhere (set (arrived plan cells turn) (handle_cell plan node) values.Unknown) (acknowledgement_cell plan node) cell
-        (values.Boolean false) (apart 4 (omega arith))
-        ∙ elsewhere (arrived plan cells turn) (handle_cell plan node) cell values.Unknown (apart 3 (omega arith))
-    by (under_way.Aborting index) = refl
+-- a cell that is none of those that say what was said of what the node has begun
+said_off : (plan : List Site) (node : ℕ) (way : UnderWay) (cells : List Value) (cell : ℕ)
+    → cell ≢ handle_cell plan node → cell ≢ acknowledgement_cell plan node
+    → held (with_said plan node way cells) cell ≡ held cells cell
+said_off plan node under_way.Kept cells cell handle acknowledgement = refl
+said_off plan node (under_way.Begun act) cells cell handle acknowledgement =
+    elsewhere (set cells (handle_cell plan node) values.Unknown) (acknowledgement_cell plan node) cell (values.Boolean false)
+    acknowledgement
+    ∙ elsewhere cells (handle_cell plan node) cell values.Unknown handle
+said_off plan node (under_way.Aborting index) cells cell handle acknowledgement = refl
+
+-- a cell that is none of the node's
+pub turn_off : (plan : List Site) (cells : List Value) (turn : Turn) (cell : ℕ)
+    → ((part : ℕ) → part < 5 → cell ≢ node_cell plan turn.going.node + part)
+    → held (with_turn plan cells turn) cell ≡ held cells cell
+turn_off plan cells turn cell apart =
+    said_off plan turn.going.node turn.under_way (arrived plan cells turn) cell (apart 3 (omega arith)) (apart 4 (omega arith))
+    ∙ arrived_off plan cells turn cell (λ part few. apart part (omega (arith, few)))
 
 -- the node's own
 said_now : (plan : List Site) (cells : List Value) (turn : Turn) → turn.going.node < length plan
     → length cells ≡ all_cells plan
     → said_in plan turn.going.node (with_turn plan cells turn) ≡ said_after turn (said_in plan turn.going.node cells)
-said_now plan cells turn within all = by turn.under_way
+said_now plan cells turn within all = λ i. record {
+  state = (kept s (λ same. absurd (omega (arith, same))) (λ same. absurd (omega (arith, same))) ∙ state) i;
+  outcome = (kept o (λ same. absurd (omega (arith, same))) (λ same. absurd (omega (arith, same))) ∙ outcome_is) i;
+  failure = (kept f (λ same. absurd (omega (arith, same))) (λ same. absurd (omega (arith, same))) ∙ failure_is) i;
+  handle = handle_is turn.under_way i;
+  acknowledgement = acknowledgement_is turn.under_way i;
+}
   where
     node : ℕ
     node = turn.going.node
@@ -155,11 +171,13 @@ said_now plan cells turn within all = by turn.under_way
     three : List Value
     three = set two f failure
 
+    -- what was said of what it has begun changes no other cell
+    kept : (cell : ℕ) → cell ≢ h → cell ≢ a → held (with_said plan node turn.under_way three) cell ≡ held three cell
+    kept cell = said_off plan node turn.under_way three cell
+
     behind : (part : ℕ) → 2 < part → held three (node_cell plan node + part) ≡ held cells (node_cell plan node + part)
     behind part far =
-        elsewhere two f (node_cell plan node + part) failure (λ same. absurd (omega (arith, same)))
-        ∙ elsewhere one o (node_cell plan node + part) outcome (λ same. absurd (omega (arith, same)))
-        ∙ elsewhere cells s (node_cell plan node + part) to (λ same. absurd (omega (arith, same)))
+        arrived_off plan cells turn (node_cell plan node + part) (λ other few same. absurd (omega (arith, far, few, same)))
 
     long : length three ≡ all_cells plan
     long = arrived_length plan cells turn ∙ all
@@ -180,42 +198,19 @@ said_now plan cells turn within all = by turn.under_way
         get_or-set_same two f failure values.Unknown
         (omega (arith, all, within, length-set cells s to, length-set one o outcome))
 
-    by : (way : UnderWay) → said_in plan node (with_said plan node way three) ≡ record {
-      state = to;
-      outcome = outcome;
-      failure = failure;
-      handle = handle_after way (held cells h);
-      acknowledgement = acknowledgement_after way (held cells a);
-    }
-    by under_way.Kept = λ i. record {
-      state = state i;
-      outcome = outcome_is i;
-      failure = failure_is i;
-      handle = behind 3 (omega arith) i;
-      acknowledgement = behind 4 (omega arith) i;
-    }
-    by (under_way.Begun act) =
-        let four : List Value = set three h values.Unknown in
-        let fresh : Value = values.Boolean false in
-        λ i. record {
-          state = (elsewhere four a s fresh (λ same. absurd (omega (arith, same)))
-              ∙ elsewhere three h s values.Unknown (λ same. absurd (omega (arith, same))) ∙ state) i;
-          outcome = (elsewhere four a o fresh (λ same. absurd (omega (arith, same)))
-              ∙ elsewhere three h o values.Unknown (λ same. absurd (omega (arith, same))) ∙ outcome_is) i;
-          failure = (elsewhere four a f fresh (λ same. absurd (omega (arith, same)))
-              ∙ elsewhere three h f values.Unknown (λ same. absurd (omega (arith, same))) ∙ failure_is) i;
-          handle = (elsewhere four a h fresh (λ same. absurd (omega (arith, same)))
-              ∙ get_or-set_same three h values.Unknown values.Unknown (omega (arith, long, within))) i;
-          acknowledgement = get_or-set_same four a fresh values.Unknown
-              (omega (arith, long, within, length-set three h values.Unknown)) i;
-        }
-    by (under_way.Aborting index) = λ i. record {
-      state = state i;
-      outcome = outcome_is i;
-      failure = failure_is i;
-      handle = behind 3 (omega arith) i;
-      acknowledgement = behind 4 (omega arith) i;
-    }
+    handle_is : (way : UnderWay) → held (with_said plan node way three) h ≡ handle_after way (held cells h)
+    handle_is under_way.Kept = behind 3 (omega arith)
+    handle_is (under_way.Begun act) =
+        elsewhere (set three h values.Unknown) a h (values.Boolean false) (λ same. absurd (omega (arith, same)))
+        ∙ get_or-set_same three h values.Unknown values.Unknown (omega (arith, long, within))
+    handle_is (under_way.Aborting index) = behind 3 (omega arith)
+
+    acknowledgement_is : (way : UnderWay) → held (with_said plan node way three) a ≡ acknowledgement_after way (held cells a)
+    acknowledgement_is under_way.Kept = behind 4 (omega arith)
+    acknowledgement_is (under_way.Begun act) =
+        get_or-set_same (set three h values.Unknown) a (values.Boolean false) values.Unknown
+        (omega (arith, long, within, length-set three h values.Unknown))
+    acknowledgement_is (under_way.Aborting index) = behind 4 (omega arith)
 
 -- another's
 said_kept : (plan : List Site) (cells : List Value) (turn : Turn) (node : ℕ) → node ≢ turn.going.node

@@ -66,13 +66,20 @@ wanting_are plan now (node ∷ nodes) =
 
 -- ---- who writes
 
--- the candidates that would start are all nodes that would
-among_starting : (plan : List Site) (now : World) (nodes : List ℕ) (node : ℕ)
-    → list_any (nat_eq node) (filter (starting plan now) nodes)
-    ≡ (starting plan now node && list_any (nat_eq node) nodes)
-among_starting plan now nodes node =
-    any-filter_same (nat_eq node) (starting plan now) (starting plan now node)
-    (λ other same. ap (starting plan now) (sym (eqb-true node other same))) nodes
+-- a node is among those that pass where it passes and is among all
+among_passing : (p : ℕ → Bool) (nodes : List ℕ) (node : ℕ)
+    → list_any (nat_eq node) (filter p nodes) ≡ (p node && list_any (nat_eq node) nodes)
+among_passing p nodes node =
+    any-filter_same (nat_eq node) p (p node) (λ other same. ap p (sym (eqb-true node other same))) nodes
+
+-- a node that has a destination is among the candidates that pass where it passes
+passes_among : (plan : List Site) (now : World) (nodes : List ℕ) (node : ℕ) (p : ℕ → Bool) → AreCandidates plan now nodes
+    → node < length plan → IsSome (destination plan now (site_in plan node)) → p node ≡ true
+    → list_any (nat_eq node) (filter p nodes) ≡ true
+passes_among plan now nodes node p are here goes passes =
+    among_passing p nodes node
+    ∙ and_from (p node) (list_any (nat_eq node) nodes) passes
+    (list_any-from_Contains nat_eq_equiv node nodes (are.all node here goes))
 
 pub start_goes : (plan : List Site) (now : World) (site : Site) → would_start plan now site ≡ true
     → IsSome (destination plan now site)
@@ -82,19 +89,17 @@ start_goes plan now site starts = by (destination plan now site) (sym (would_sta
     by None never = absurd (cc never)
     by (Some to) starts = refl
 
+-- the candidates that would start are all nodes that would
 starts_among : (plan : List Site) (now : World) (nodes : List ℕ) (node : ℕ) → AreCandidates plan now nodes
     → node < length plan → starting plan now node ≡ true
     → list_any (nat_eq node) (filter (starting plan now) nodes) ≡ true
 starts_among plan now nodes node are here starts =
-    among_starting plan now nodes node
-    ∙ and_from (starting plan now node) (list_any (nat_eq node) nodes) starts
-    (list_any-from_Contains nat_eq_equiv node nodes (are.all node here (start_goes plan now (site_in plan node) starts)))
+    passes_among plan now nodes node (starting plan now) are here (start_goes plan now (site_in plan node) starts) starts
 
 holds_among : (plan : List Site) (now : World) (node : ℕ) → node < length plan
     → list_any (nat_eq node) (holding plan now) ≡ holds_variable now (site_in plan node)
 holds_among plan now node here =
-    any-filter_same (nat_eq node) held (held node) (λ other same. ap held (sym (eqb-true node other same)))
-    (range_with_len 0 (length plan))
+    among_passing held (range_with_len 0 (length plan)) node
     ∙ ap (λ b. held node && b) (in_range (length plan) node here) ∙ and-true (held node)
   where
     held : ℕ → Bool
@@ -105,7 +110,7 @@ pub writers_are : (plan : List Site) (now : World) (nodes : List ℕ) → AreCan
 writers_are plan now nodes are =
     subst (λ wanting. AreWriters plan now wanting (holding plan now)) (sym (wanting_are plan now nodes)) (record {
       starts = λ node here found.
-          (and_parts (starting plan now node) (list_any (nat_eq node) nodes) (sym (among_starting plan now nodes node) ∙ found)).0;
+          (and_parts (starting plan now node) (list_any (nat_eq node) nodes) (sym (among_passing (starting plan now) nodes node) ∙ found)).0;
       wants = λ node here writer starts. starts_among plan now nodes node are here starts;
       holds = λ node here writer. holds_among plan now node here;
     })
@@ -147,8 +152,7 @@ loser_starts plan now site = grind (arith, common_steps, and_parts)
 lost : (plan : List Site) (now : World) (nodes : List ℕ) (node : ℕ) → AreCandidates plan now nodes → node < length plan
     → list_any (nat_eq node) (losing plan now nodes) ≡ is_loser_in plan now node
 lost plan now nodes node are here =
-    any-filter_same (nat_eq node) (is_loser_in plan now) (is_loser_in plan now node)
-    (λ other same. ap (is_loser_in plan now) (sym (eqb-true node other same))) (filter (starting plan now) nodes)
+    among_passing (is_loser_in plan now) (filter (starting plan now) nodes) node
     ∙ by (is_loser_in plan now node) refl
   where
     by : (loses : Bool) → is_loser_in plan now node ≡ loses
@@ -225,10 +229,8 @@ all_going plan now nodes are = record {
   all = λ node here some.
       subst (λ numbers. Contains numbers node) (sym (numbers_are plan now nodes))
       (Contains-from_any (λ x y same. eqb-true x y same) node (filter goes nodes)
-      (any-filter_same (nat_eq node) goes (goes node) (λ other same. ap goes (sym (eqb-true node other same))) nodes
-      ∙ and_from (goes node) (list_any (nat_eq node) nodes) some
-      (list_any-from_Contains nat_eq_equiv node nodes
-      (are.all node here (goes_somewhere (is_loser_in plan now node) (destination plan now (site_in plan node)) some)))));
+      (passes_among plan now nodes node goes are here
+      (goes_somewhere (is_loser_in plan now node) (destination plan now (site_in plan node)) some) some));
 }
   where
     goes : ℕ → Bool

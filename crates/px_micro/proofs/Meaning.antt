@@ -1,5 +1,6 @@
 -- What a move does in numbers is what the semantics has it do.
-use Rattle.std.proofs.Common.{◌≡◌, ℕ, suc, ◌+◌, ◌^◌, ◌<◌, ◌≤◌, true, nat_lt, pos, negsuc, List, [], ◌∷◌, length, map, refl, ap, sym, ◌∙◌, subst, arith, Option, Some, None, is_some}
+use mathlib.Core.List.{map-map}
+use Rattle.std.proofs.Common.{◌≡◌, ℕ, ◌+◌, ◌^◌, ◌<◌, ◌≤◌, true, nat_lt, pos, negsuc, List, length, map, refl, ap, sym, ◌∙◌, subst, arith, Option, Some, None, is_some}
 use Rattle.std.specs.List.{All}
 use Rattle.std.specs.Option.{ForSome, option_map, option_and_then}
 use Rattle.std.proofs.lemmas.Bool.{and_parts, ltb-true}
@@ -8,7 +9,7 @@ use Rattle.std.proofs.lemmas.Option.{same_Some}
 use Rattle.px_value.specs.declared.value.Value.{Value}
 use Rattle.px_value.specs.declared.value.Value.TheVariants as values
 use Rattle.px_value.specs.Value.{place_in, value_index}
-use Rattle.px_value.proofs.General.{All-unmap}
+use Rattle.px_value.proofs.General.{All-unmap, map-same}
 use Rattle.px_core.specs.Expr.{Term}
 use Rattle.px_core.specs.Fit.{terms_of, targets_of}
 use Rattle.px_core.specs.Plan.{Site, BodyData, Nothing, Assign, Command, Update, TargetData, PairData}
@@ -26,6 +27,7 @@ use Rattle.px_flat.specs.Layout.{handle_cell, acknowledgement_cell, variable_cel
 use Rattle.px_flat.specs.Numbered.{BodyNumbered, TargetNumbered, held, kind_of, numbered, numbered_body, numbered_target, place_of}
 use Rattle.px_flat.specs.Parts.{fits, action_in, act_of}
 use Rattle.px_flat.specs.Row.{site_in}
+use Rattle.px_flat.specs.Values.{HasValue}
 use Rattle.px_flat.specs.Within.{IsBodyWithin}
 use Rattle.px_flat.proofs.NodeTerms.{have_values}
 use Rattle.px_flat.proofs.Tables.{flat_sound}
@@ -101,9 +103,8 @@ place_inside size (values.Handle handle) place is = absurd (cc is)
 -- by a variable that has cells, and a right side that has a value
 assigns_as : (parts : Parts) (node : ℕ) (owner name : List ℕ) (index : Option Term) (right : Term)
     → HasCells parts owner name
-    → ((given : Value) → taken_as (plan_in parts) (record { owner = owner; name = name; index = index }) given
-    ≡ as_kind (kind_of (plan_in parts) owner name) given)
-    → value_in parts (numbered (plan_in parts) right) ≡ value (plan_in parts) (world_in parts) right
+    → as_kind (kind_of (plan_in parts) owner name) (value_in parts (numbered (plan_in parts) right))
+    ≡ taken_as (plan_in parts) (record { owner = owner; name = name; index = index }) (value (plan_in parts) (world_in parts) right)
     → ((term : Term) → index ≡ Some term
     → value_in parts (numbered (plan_in parts) term) ≡ value (plan_in parts) (world_in parts) term)
     → IsDone parts node (Assign (record { owner = owner; name = name; index = index }) right)
@@ -111,7 +112,7 @@ assigns_as : (parts : Parts) (node : ℕ) (owner name : List ℕ) (index : Optio
     (numbered_target (plan_in parts) (record { owner = owner; name = name; index = index }))
     (value_in parts (numbered (plan_in parts) right)))
     (sem.assigns (plan_in parts) (world_in parts) (record { owner = owner; name = name; index = index }) right)
-assigns_as parts node owner name None right has takes worth at = record {
+assigns_as parts node owner name None right has taken at = record {
   write = ap (λ value. Some (record {
     variable = (place_of (plan_in parts) owner name).first;
     cell = (place_of (plan_in parts) owner name).first + 0;
@@ -122,11 +123,7 @@ assigns_as parts node owner name None right has takes worth at = record {
   fits = refl;
   told = ap (λ value. Some (told_write (record { owner = owner; name = name; place = world.Whole; value = value }))) taken;
 }
-  where
-    taken : as_kind (kind_of (plan_in parts) owner name) (value_in parts (numbered (plan_in parts) right))
-        ≡ taken_as (plan_in parts) (record { owner = owner; name = name; index = None }) (value (plan_in parts) (world_in parts) right)
-    taken = ap (as_kind (kind_of (plan_in parts) owner name)) worth ∙ sym (takes (value (plan_in parts) (world_in parts) right))
-assigns_as parts node owner name (Some term) right has takes worth at =
+assigns_as parts node owner name (Some term) right has taken at =
     by (place_in size (value_in parts (numbered plan term))) refl
   where
     plan : List Site
@@ -137,10 +134,6 @@ assigns_as parts node owner name (Some term) right has takes worth at =
 
     target : TargetData
     target = record { owner = owner; name = name; index = Some term }
-
-    taken : as_kind (kind_of plan owner name) (value_in parts (numbered plan right))
-        ≡ taken_as plan target (value plan (world_in parts) right)
-    taken = ap (as_kind (kind_of plan owner name)) worth ∙ sym (takes (value plan (world_in parts) right))
 
     -- the semantics takes the same index
     there : (place : Option ℕ) → place_in size (value_in parts (numbered plan term)) ≡ place
@@ -192,15 +185,16 @@ taken_fits parts command owner name args None = refl
 taken_fits parts command owner name args (Some term) = grind (arith, common_steps, place_inside)
 
 abbrev HasWorth : Parts → Term → Type 0
-HasWorth parts term = value_in parts (numbered (plan_in parts) term) ≡ value (plan_in parts) (world_in parts) term
+HasWorth parts = HasValue (plan_in parts) parts.cells.contents.values parts.reports.reports parts.actions.contents.values
 
 -- the values of terms of some items
 values_are : {X : Type 0} (parts : Parts) (term : X → Term) (items : List X) → All (λ item. HasWorth parts (term item)) items
     → map (value_in parts) (map (λ item. numbered (plan_in parts) (term item)) items)
     ≡ map (λ item. value (plan_in parts) (world_in parts) (term item)) items
-values_are parts term [] worth = refl
-values_are parts term (item ∷ items) worth = λ i.
-    worth 0 item (omega arith) i ∷ values_are parts term items (λ k d inside. worth (suc k) d (omega (arith, inside))) i
+values_are parts term items worth =
+    map-map (value_in parts) (λ item. numbered (plan_in parts) (term item)) items
+    ∙ map-same (λ item. value_in parts (numbered (plan_in parts) (term item)))
+    (λ item. value (plan_in parts) (world_in parts) (term item)) items worth
 
 sends_as : (parts : Parts) (node : ℕ) (name : List ℕ) (args : List Term) (result : Option TargetData)
     → All (HasWorth parts) args
@@ -323,10 +317,13 @@ each_row parts node move body stand here is = by move body is
     by sem.Resets (Update pairs) is = fresh parts node (Update pairs)
     by sem.Starts Nothing is = nothing parts node (fit Nothing is)
     by sem.Starts (Assign target right) is =
+        let worth : value_in parts (numbered plan right) ≡ value plan (world_in parts) right =
+        have (Assign target right) is 0 right (omega arith) in
         assigns_as parts node target.owner target.name target.index right
         (cells (Assign target right) target is refl)
-        (λ given. taken_alike plan target given (flat_sound parts.flat) (declared (Assign target right) target is refl))
-        (have (Assign target right) is 0 right (omega arith))
+        (ap (as_kind (kind_of plan target.owner target.name)) worth
+        ∙ sym (taken_alike plan target (value plan (world_in parts) right) (flat_sound parts.flat)
+        (declared (Assign target right) target is refl)))
         (λ term at. indices (Assign target right) is 0 target (omega arith) term at)
     by sem.Starts (Command name args None) is =
         sends_as parts node name args None (have (Command name args None) is)

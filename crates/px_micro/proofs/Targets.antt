@@ -14,9 +14,10 @@ use Rattle.px_sem.specs.World as world
 use Rattle.px_sem.specs.World.{cells_at}
 use Rattle.px_flat.specs.Layout.{Place}
 use Rattle.px_flat.specs.Numbered.{held, numbered, numbered_target, place_of}
+use Rattle.px_flat.specs.Within.{IsPlace}
 use Rattle.px_flat.proofs.Tables.{flat_sound}
 use Rattle.px_flat.proofs.VariableValues.{placed}
-use Rattle.px_flat.proofs.Variables.{IsDeclared, cells_within, place_at}
+use Rattle.px_flat.proofs.Variables.{IsDeclared, declared_place}
 use Rattle.px_eval.proofs.Elements.{index_is}
 use Rattle.px_parts.specs.declared.parts.Parts.{Parts}
 use Rattle.px_parts.specs.Parts.{plan_in, world_in, value_in, AreStanding}
@@ -39,20 +40,13 @@ has_cells parts owner name stand declared =
     let all : List Value = parts.cells.contents.values in
     let are = placed plan all parts.reports.reports parts.actions.contents.values owner name declared.node
     (flat_sound parts.flat).distinct declared.within declared.path_is declared.has in
-    let is : place ≡ declared.has.place = place_at plan owner name (flat_sound parts.flat) declared in
-    let within : place.first + place.size ≤ length all = omega (
-      arith,
-      stand.all_cells,
-      declared.has.within,
-      cells_within plan declared.node declared.within,
-      ap (λ (place : Place). place.first) is,
-      ap (λ (place : Place). place.size) is,
-    ) in
+    let inside : IsPlace plan place = declared_place plan owner name (flat_sound parts.flat) declared in
+    let within : place.first + place.size ≤ length all = omega (arith, stand.all_cells, inside.within) in
     record {
       cells = are.values_are;
       long = ap length are.values_are
           ∙ omega (arith, length-take place.size (drop place.first all), length-drop place.first all, within);
-      some = omega (arith, declared.has.some_cells, ap (λ (place : Place). place.size) is);
+      some = inside.some;
     }
 
 -- the value at a place of a variable

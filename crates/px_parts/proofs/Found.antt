@@ -1,5 +1,5 @@
 -- What is found in the world at the path of a node, and at a path that the plan doesn't have.
-use Rattle.std.proofs.Common.{◌≡◌, ◌≢◌, ℕ, ◌+◌, ◌<◌, Bool, true, false, cond, List, [], ◌∷◌, length, refl, ap, sym, ◌∙◌, Option, Some, None}
+use Rattle.std.proofs.Common.{◌≡◌, ◌≢◌, ℕ, ◌+◌, ◌<◌, Bool, true, false, cond, List, [], ◌∷◌, length, refl, ap, sym, ◌∙◌, Some}
 use Rattle.std.specs.List.{position_from}
 use Rattle.std.specs.Map.{lookup}
 use Rattle.std.specs.Option.{option_map, unwrap_or}
@@ -8,6 +8,7 @@ use Rattle.std.proofs.lemmas.Iterator.Adapters.{position_from-zero}
 use Rattle.px_value.specs.declared.enums.NodeState.{NodeState}
 use Rattle.px_value.specs.declared.enums.NodeState.TheVariants as states
 use Rattle.px_value.specs.declared.enums.Outcome.TheVariants.{Success}
+use Rattle.px_value.proofs.General.{option_map-map}
 use Rattle.px_core.specs.Plan.{Site, is_same, root_of}
 use Rattle.px_sem.specs.declared.standing.Standing.TheVariants.{Finished, Running}
 use Rattle.px_sem.specs.World.{World, NodeRecord, record_at, known_state, standing_of}
@@ -42,18 +43,15 @@ pub state_known : (parts : Parts) (path : List ℕ)
     → option_map (λ node. (record_of parts node).state) (number_at (plan_in parts) path)
     ≡ known_state (world_in parts) path
 state_known parts path =
-    by (number_at (plan_in parts) path) ∙ sym (ap (option_map (λ r. r.state)) found)
+    option_map-map (λ (r : NodeRecord). r.state) (record_of parts) (λ node. (record_of parts node).state) (λ node. refl)
+    (number_at (plan_in parts) path)
+    ∙ sym (ap (option_map (λ r. r.state)) found)
   where
     found : lookup (λ key. is_same key path) (world_in parts).nodes
         ≡ option_map (record_of parts) (number_at (plan_in parts) path)
     found =
         looked_from (plan_in parts) (record_of parts) 0 path
         ∙ ap (option_map (record_of parts)) (sym (position_from-zero (is_same path) (paths_of (plan_in parts))))
-
-    by : (number : Option ℕ) → option_map (λ node. (record_of parts node).state) number
-        ≡ option_map (λ r. r.state) (option_map (record_of parts) number)
-    by None = refl
-    by (Some node) = refl
 
 -- ---- the root
 

@@ -1,5 +1,5 @@
 -- What the forms of plans span depends on those tokens alone.
-use Rattle.std.proofs.Common.{ℕ, arith, ℤ, pos, List, [], ◌∷◌, Option, Some, None}
+use Rattle.std.proofs.Common.{◌≡◌, ℕ, arith, ℤ, neg_ℤ, pos, List, [], ◌∷◌, Option, Some, None}
 use Rattle.px_lex.specs.declared.keyword.Keyword.{Keyword}
 use Rattle.px_lex.specs.declared.keyword.Keyword.TheVariants as words
 use Rattle.px_lex.specs.declared.sign.Sign.TheVariants as signs
@@ -22,7 +22,7 @@ use Rattle.px_syntax.specs.ExprGrammar.{literal_kind}
 use Rattle.px_syntax.specs.Form.{Form, each, keyword, maybe, optional, sign, ◌then◌, number}
 use Rattle.px_syntax.specs.Plan.{DeclarationData, Command, Lookup, PlanTree}
 use Rattle.px_syntax.specs.PlanGrammar.{declaration, parameter, parameters, plan}
-use Rattle.px_expr_parse.proofs.Spans.{IsLocal, local_arguments, local_between, local_either, local_expression, local_identifier, local_never, local_nothing, local_numbered, local_one, local_sign, local_then}
+use Rattle.px_expr_parse.proofs.Spans.{IsLocal, local_arguments, local_between, local_either, local_expression, local_identifier, local_never, local_nothing, local_numbered, local_one, local_sign, local_some, local_then}
 use Rattle.px_plan_parse.specs.Named.{optional_index}
 use Rattle.px_plan_parse.specs.Tail.{array_size, closed_parameters, counter, head, list_word, test}
 use Rattle.px_plan_parse.proofs.Commas.{local_commas}
@@ -62,11 +62,7 @@ local_minus : (size : ℕ) → IsLocal (sign signs.Minus then number size)
 local_minus size = local_then (local_sign signs.Minus) (local_number size)
 
 local_negative : (value : ℤ) → IsLocal (negative value)
-local_negative value =
-    record {
-      rises = λ tokens from to o. (local_minus o.0).rises tokens from to o.2;
-      moves = λ tokens others from to agree o. (o.0, o.1, (local_minus o.0).moves tokens others from to agree o.2);
-    }
+local_negative value = local_some (λ (size : ℕ). value ≡ neg_ℤ (pos size)) local_minus
 
 pub local_signed : (value : ℤ) → IsLocal (signed value)
 local_signed value = local_either (local_one (kinds.Integer value)) (local_negative value)

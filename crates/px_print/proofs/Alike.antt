@@ -5,6 +5,7 @@ use Rattle.std.specs.Fmt.{signed_decimal}
 use Rattle.std.specs.List.{flat_map, join_by}
 use Rattle.std.specs.Option.{option_map}
 use Rattle.std.proofs.lemmas.List.Folds.{flat_map-map}
+use Rattle.px_value.specs.Text.{bracketed}
 use Rattle.px_syntax.specs.declared.block.ListedLiteral.{ListedLiteral}
 use Rattle.px_syntax.specs.declared.expr.Identifier.{Identifier}
 use Rattle.px_syntax.specs.declared.expr.NodeReference.{NodeReference}
@@ -20,7 +21,7 @@ use Rattle.px_syntax.specs.Plan as plans
 use Rattle.px_syntax.specs.Plan.{DeclarationData, PlanTree}
 use Rattle.px_print.specs.Texts.{◌then◌}
 use Rattle.px_print.specs.ExprLayout.{literal_text, look_text, unary_function_text, binary_function_text, unary_sign, binary_sign, node_text, tolerance_text, as_operand, as_optional, term_text, arguments_text, further_text}
-use Rattle.px_print.specs.BlockLayout.{deeper, line, type_text, condition_text, size_text, initial_text, first_value_text, variable_text, item_text, label_text, index_text, target_text, call_text, pair_text, form_text, node_list_text, block_text, actions_text, action_text, branch_text, guarded_text, else_ifs_text, else_text, body_text}
+use Rattle.px_print.specs.BlockLayout.{deeper, line, type_text, condition_text, initial_text, first_value_text, variable_text, item_text, label_text, index_text, target_text, call_text, pair_text, form_text, node_list_text, block_text, actions_text, action_text, branch_text, guarded_text, else_ifs_text, else_text, body_text}
 use Rattle.px_print.specs.Layout.{name_text, parameter_text, parameters_text, answer_text, declaration_text, layout}
 use Rattle.px_print.specs.Unnumbered.{plain_name, plain_node, plain_tolerance, plain_term, plain_terms, plain_listed, plain_initial, plain_variable, plain_item, plain_target, plain_call, plain_pair, plain_block, plain_actions, plain_action, plain_branch, plain_guarded, plain_else_ifs, plain_else, plain_body, plain_parameter, plain_declaration, plain_plan, IsSame}
 
@@ -108,7 +109,7 @@ first_value_alike None = refl
 first_value_alike (Some initial) = ap (λ t. codes " = " then t) (initial_alike initial)
 
 variable_alike : (variable : VariableData) → variable_text (plain_variable variable) ≡ variable_text variable
-variable_alike variable = ap (λ t. variable.name.name then size_text variable.size then t) (first_value_alike variable.initial)
+variable_alike variable = ap (λ t. variable.name.name then bracketed variable.size then t) (first_value_alike variable.initial)
 
 item_alike : (item : ItemData) → item_text (plain_item item) ≡ item_text item
 item_alike (blocks.Variables of_type variables) =

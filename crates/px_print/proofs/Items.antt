@@ -4,6 +4,7 @@ use Rattle.std.specs.Prelude.{codes, pos, neg_ℤ, zero, suc}
 use Rattle.std.specs.Fmt.{signed_decimal}
 use Rattle.std.specs.List.{join_by}
 use Rattle.std.specs.Option.{option_map}
+use Rattle.px_value.specs.Text.{bracketed}
 use Rattle.px_lex.specs.declared.keyword.Keyword.TheVariants as words
 use Rattle.px_lex.specs.declared.sign.Sign.TheVariants as signs
 use Rattle.px_lex.specs.declared.token.Token.{Token}
@@ -19,7 +20,7 @@ use Rattle.px_syntax.specs.Block.{InitialData, Value, Listed, VariableData, Item
 use Rattle.px_syntax.specs.BlockGrammar.{type_word, condition_word, signed, literal, listed, initial, first_value, size_of, variable, item}
 use Rattle.px_syntax.specs.Form.{Form, sign, ◌then◌, maybe, each, number}
 use Rattle.px_print.specs.ExprLayout.{literal_text}
-use Rattle.px_print.specs.BlockLayout.{type_text, condition_text, size_text, initial_text, first_value_text, variable_text, item_text}
+use Rattle.px_print.specs.BlockLayout.{type_text, condition_text, initial_text, first_value_text, variable_text, item_text}
 use Rattle.px_print.specs.Unnumbered.{plain_listed, plain_initial, plain_variable, plain_item}
 use Rattle.px_print.proofs.Exprs.{Alike, prints_close, prints_name, prints_number, prints_literal, prints_whole}
 use Rattle.px_print.proofs.Lists.{prints_each, next_each, prints_commas}
@@ -116,7 +117,7 @@ module _ {source : List ℕ} (given : List Token) (all : AllCan source given) wh
       (λ tokens from to r. (Some r.2.0, ap (λ v. Some v) r.2.1, (r.0, r.1, r.2.2)))
 
   prints_size : (size : Option ℕ) (from to : ℕ) → maybe size_of size given from to → (rest : List ℕ)
-      → Prints source (maybe size_of size) (size_text size) rest
+      → Prints source (maybe size_of size) (bracketed size) rest
   prints_size None from to h rest = prints_nothing rest
   prints_size (Some size) from to h rest =
       let close = prints_any signs.CloseBracket (codes "]") rest refl (λ c cs. refl) in
@@ -124,7 +125,7 @@ module _ {source : List ℕ} (given : List Token) (all : AllCan source given) wh
       prints_then inside (prints_any signs.OpenBracket (codes "[") (follow inside) refl (λ c cs. refl))
 
   variable_ends : (size : Option ℕ) (value : Option InitialData) (rest : List ℕ) → Stops rest
-      → Ends ((size_text size ++ first_value_text value) ++ rest)
+      → Ends ((bracketed size ++ first_value_text value) ++ rest)
   variable_ends None None rest stops = stops.0
   variable_ends None (Some value) rest stops = refl
   variable_ends (Some size) value rest stops = refl

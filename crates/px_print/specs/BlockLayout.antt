@@ -3,6 +3,7 @@
 use Rattle.std.specs.Prelude.{ℕ, List, [], Option, Some, None, codes, decimal}
 use Rattle.std.specs.Fmt.{signed_decimal}
 use Rattle.std.specs.List.{flat_map, join_by}
+use Rattle.px_value.specs.Text.{bracketed}
 use Rattle.px_syntax.specs.declared.expr.Identifier.{Identifier}
 use Rattle.px_syntax.specs.declared.word.BlockForm.{BlockForm}
 use Rattle.px_syntax.specs.declared.word.BlockForm.TheVariants as forms
@@ -39,10 +40,6 @@ condition_text conditions.Pre = codes "Pre"
 condition_text conditions.Post = codes "Post"
 condition_text conditions.Invariant = codes "Invariant"
 
-abbrev pub size_text : Option ℕ → List ℕ
-size_text None = []
-size_text (Some size) = codes "[" then decimal size then codes "]"
-
 -- literals of a list with a blank between each two
 abbrev pub initial_text : InitialData → List ℕ
 initial_text (Value value token) = literal_text value
@@ -54,7 +51,7 @@ first_value_text None = []
 first_value_text (Some initial) = codes " = " then initial_text initial
 
 abbrev pub variable_text : VariableData → List ℕ
-variable_text variable = variable.name.name then size_text variable.size then first_value_text variable.initial
+variable_text variable = variable.name.name then bracketed variable.size then first_value_text variable.initial
 
 abbrev pub item_text : ItemData → List ℕ
 item_text (Variables of_type variables) =

@@ -1,9 +1,10 @@
 // The items of a block.
 ghost use Rattle.std.specs.Prelude.{◌≡◌, ◌++◌, codes, map, option_map, OnOk};
 ghost use Rattle.std.specs.List.{flat_map, join_by};
+ghost use Rattle.px_value.specs.Text.{bracketed};
 ghost use Rattle.px_syntax.specs.Block.{initial_data, item_data, variable_data};
 ghost use Rattle.px_print.specs.ExprLayout.{literal_text};
-ghost use Rattle.px_print.specs.BlockLayout.{first_value_text, initial_text, item_text, size_text, variable_text};
+ghost use Rattle.px_print.specs.BlockLayout.{first_value_text, initial_text, item_text, variable_text};
 
 use crate::append::push_all;
 use crate::expression::push_expression;
@@ -72,7 +73,7 @@ fn push_variable(variable: &Variable, out: &mut Vec<u8>) -> Result<(), NoMemory>
 }
 
 fn push_size(size: Option<u32>, out: &mut Vec<u8>) -> Result<(), NoMemory>
-    ensures { OnOk result (out.new.items ≡ out.old.items ++ size_text size) }
+    ensures { OnOk result (out.new.items ≡ out.old.items ++ bracketed size) }
 {
     match size {
         None => Ok(()),

@@ -53,28 +53,6 @@ module _ {D : Type 0} (members : Disk.Ghosts D) (before now : View) (disk : D) (
   usage_performed words is same =
       rw is (plainly None (EndsIn Untouched usage Untouched) (Err (stops.Refused refusals.Usage)) (λ due calls. (refl, calls)) ((refl, refl), same))
 
-  -- memory is wanting while the words are read: whatever they ask for, nothing was done
-  pub early_performed : (words : Option Command) → Performed members words before before disk (record { result = Err stops.NoMemory; disk = disk })
-  early_performed words = record {
-    course = Untouched;
-    performs = by words;
-    leaves = λ tells. untouched_at_once members disk;
-    bound = inl unbound;
-    back = record { tells = refl; kept = λ other. refl };
-  }
-    where
-      by : (asked : Option Command) → Performs before before (CommandCallsFor members asked before before disk disk Untouched) (Err stops.NoMemory)
-      by None = inl (usage, (refl, (refl, refl)), ([], usage.text, refl, emits_nothing before.emitted))
-      by (Some (TraceStart plan)) = inr ((refl, AfterFile.no_memory), refl)
-      by (Some (DryRun plan script)) = inr ((refl, AfterFile.no_memory), refl)
-      by (Some (Check plan)) = inr ((refl, AfterFile.no_memory), refl)
-      by (Some (Format plan)) = inr ((refl, AfterFile.no_memory), refl)
-      by (Some (Run plan script journal limit)) = inr (AfterFile.no_memory, refl)
-      by (Some (Resume script journal limit)) = inr (AfterJournal.not_read refl, refl)
-      by (Some (Trace journal)) = inr (AfterJournal.not_read refl, refl)
-      by (Some (Names journal)) = inr (NamesCalls.not_read refl, refl)
-      by (Some (Soak count seed journal)) = inr (SoakCalls.no_memory, refl)
-
   pub trace_start_performed : (words : Option Command) (plan : List ℕ) (r : Result End Stop) → words ≡ Some (TraceStart plan)
       → Performs before now (TraceStartCalls plan before now Untouched) r → Performed members words before now disk (record { result = r; disk = disk })
   trace_start_performed words plan r is performs =
@@ -94,6 +72,24 @@ module _ {D : Type 0} (members : Disk.Ghosts D) (before now : View) (disk : D) (
       → Performs before now (FormatCalls plan before now Untouched) r → Performed members words before now disk (record { result = r; disk = disk })
   format_performed words plan r is performs =
       rw is (plainly (Some (Format plan)) (FormatCalls plan before now Untouched) r (λ due calls. (refl, calls)) performs)
+
+-- memory is wanting while the words are read: whatever they ask for, nothing was done
+pub early_performed : {D : Type 0} (members : Disk.Ghosts D) (before : View) (disk : D) → members.bound_to disk ≡ None → (words : Option Command)
+    → Performed members words before before disk (record { result = Err stops.NoMemory; disk = disk })
+early_performed members before disk unbound words =
+    plainly members before before disk unbound words (CommandCallsFor members words before before disk disk Untouched) (Err stops.NoMemory) (λ due calls. calls) (by words)
+  where
+    by : (asked : Option Command) → Performs before before (CommandCallsFor members asked before before disk disk Untouched) (Err stops.NoMemory)
+    by None = inl (usage, (refl, (refl, refl)), ([], usage.text, refl, emits_nothing before.emitted))
+    by (Some (TraceStart plan)) = inr ((refl, AfterFile.no_memory), refl)
+    by (Some (DryRun plan script)) = inr ((refl, AfterFile.no_memory), refl)
+    by (Some (Check plan)) = inr ((refl, AfterFile.no_memory), refl)
+    by (Some (Format plan)) = inr ((refl, AfterFile.no_memory), refl)
+    by (Some (Run plan script journal limit)) = inr (AfterFile.no_memory, refl)
+    by (Some (Resume script journal limit)) = inr (AfterJournal.not_read refl, refl)
+    by (Some (Trace journal)) = inr (AfterJournal.not_read refl, refl)
+    by (Some (Names journal)) = inr (NamesCalls.not_read refl, refl)
+    by (Some (Soak count seed journal)) = inr (SoakCalls.no_memory, refl)
 
 -- ---- a command with a journal
 

@@ -4,7 +4,7 @@ use Rattle.std.specs.Option.{option_map, option_and_then}
 use Rattle.px_compile.specs.Compiled.{IsCompiled}
 use Rattle.px_core.specs.Plan.{Site, Tree, sites}
 use Rattle.px_event.specs.declared.entry.Entry.{Entry}
-use Rattle.px_output.specs.View.{View}
+use Rattle.px_output.specs.View.{View, Faulted}
 use Rattle.px_ports.specs.Host.{Emits, Rose}
 use Rattle.px_ports.specs.declared.disk.Disk
 use Rattle.px_script.specs.Follows.{AreStalled}
@@ -32,6 +32,7 @@ use Rattle.px_run.specs.Soak.{soak_plan, soak_lines, SoakCalls}
 use Rattle.px_run.specs.declared.finishing.Telling.{Telling}
 use Rattle.px_run.specs.declared.finishing.Telling.TheVariants as tellings
 use Rattle.px_run.proofs.FileKinds.{IsKind, plan_kind, script_kind, text_kind}
+use Rattle.px_run.proofs.Finished.{where_behind}
 use Rattle.px_run.proofs.SeenFiles.{WhereDue, without_text}
 use Rattle.px_run.proofs.Starting.{some_start}
 
@@ -109,9 +110,9 @@ module _ {D : Type 0} (members : Disk.Ghosts D) (words : List (List ℕ)) (befor
       → (StallsBehind before now script plan limit first → StallsOver members words before now old)
       → Reads (script_file plan) before now script spelled → IsSession plan text first limit (rest spelled.threads first) session
       → DueBehind members telling plan (rest spelled.threads first) session old new due → AreCaused due
-  session_caused telling plan text first limit script spelled session _ fails carried_out stalls reads so (DueBehind.whole none all) = λ emits. carried_out
-  session_caused telling plan text first limit script spelled session _ fails carried_out stalls reads so (DueBehind.stalled waits none stalled) =
-      λ emits. Cause.stalled (stalls (record {
+  session_caused telling plan text first limit script spelled session due fails carried_out stalls reads so =
+      where_behind members telling plan (rest spelled.threads first) session old new IsCaused due (λ emits. carried_out)
+      (λ waits stalled emits. Cause.stalled (stalls (record {
         spelled = spelled;
         read = reads;
         log = session.log;
@@ -119,9 +120,8 @@ module _ {D : Type 0} (members : Disk.Ghosts D) (words : List (List ℕ)) (befor
         stalls = waits;
         stalled = subst (λ (h : List Entry). AreStalled plan h session.log (rest spelled.threads first) waits) so.same_first stalled;
         text = subst (λ (h : List Entry). Emits before.emitted now.emitted (stalled_ending plan h session.log waits).text) so.same_first emits;
-      }))
-  session_caused telling plan text first limit script spelled session _ fails carried_out stalls reads so (DueBehind.failed some rose) = λ emits. fails rose
-  session_caused telling plan text first limit script spelled session _ fails carried_out stalls reads so (DueBehind.no_memory none) = tt
+      })))
+      (λ rose emits. fails rose)
 
   -- ---- a plan that is to be run
 
@@ -282,11 +282,11 @@ module _ {D : Type 0} (members : Disk.Ghosts D) (words : List (List ℕ)) (befor
     module _ (starts : Starts words before now (λ found. IsSome found)) where
       soaked_caused : (session : Session) (due : Due) → IsNothing members old
           → DueBehind members tellings.Summary (sites tree) (rest (soak_threads count seed) []) session old new due → AreCaused due
-      soaked_caused session _ nothing (DueBehind.whole none all) = λ emits. Cause.done starts (λ has. nothing)
-      soaked_caused session _ nothing (DueBehind.stalled waits none stalled) =
-          absurd (soak_never_stalls (sites tree) session.first session.log count seed waits stalled)
-      soaked_caused session _ nothing (DueBehind.failed some rose) = λ emits. Cause.disk_fault (soak_journal words asked) (inr starts) rose
-      soaked_caused session _ nothing (DueBehind.no_memory none) = tt
+      soaked_caused session due nothing =
+          where_behind members tellings.Summary (sites tree) (rest (soak_threads count seed) []) session old new IsCaused due
+          (λ emits. Cause.done starts (λ has. nothing))
+          (λ waits stalled. absurd (soak_never_stalls (sites tree) session.first session.log count seed waits stalled))
+          (λ rose emits. Cause.disk_fault (soak_journal words asked) (inr starts) rose)
 
       soak_made_caused : (text : List ℕ) (limit : ℕ) (course : Course) (due : Due)
           → NewCalls members tellings.Summary (sites tree) text limit (soak_lines count seed) old new course due → AreCaused due
@@ -347,12 +347,22 @@ module _ {D : Type 0} (members : Disk.Ghosts D) (words : List (List ℕ)) (befor
   pub caused : (course : Course) (ending : Ending) → CommandCallsFor members (command words) before now old new course (Some ending) → IsCaused ending
   caused course ending calls = caused_by (command words) course (Some ending) refl calls
 
+-- what holds of the status of an ending that was emitted, of that of a fault of the sink and of that of want of memory holds
+-- of each status
+pub of_status : {D : Type 0} (members : Disk.Ghosts D) (words : List (List ℕ)) (before now : View) (old new : D) (Holds : ℕ → Type 0) (status : ℕ)
+    → ((course : Course) (ending : Ending) → CommandCallsFor members (command words) before now old new course (Some ending)
+    → Emits before.emitted now.emitted ending.text → Holds ending.status)
+    → (Faulted before now → Holds 8) → Holds 10 → Headline members words before now old new status → Holds status
+of_status members words before now old new Holds _ whole sink memory (Headline.delivered course ending status calls leaves delivers) = by status delivers
+  where
+    by : (s : ℕ) → Delivers before now ending s → Holds s
+    by _ (Delivers.whole emits) = whole course ending calls emits
+    by _ (Delivers.sink_fault part fault) = sink fault
+    by _ (Delivers.no_memory part) = memory
+of_status members words before now old new Holds _ whole sink memory (Headline.nothing_emitted course calls leaves same) = memory
+
 pub causes : {D : Type 0} (members : Disk.Ghosts D) (words : List (List ℕ)) (before now : View) (old new : D) (status : ℕ)
     → Headline members words before now old new status → Cause members words before now old new status
-causes members words before now old new _ (Headline.delivered course ending status calls leaves delivers) = by status delivers
-  where
-    by : (s : ℕ) → Delivers before now ending s → Cause members words before now old new s
-    by _ (Delivers.whole emits) = caused members words before now old new course ending calls emits
-    by _ (Delivers.sink_fault part fault) = Cause.sink_fault fault
-    by _ (Delivers.no_memory part) = Cause.no_memory
-causes members words before now old new _ (Headline.nothing_emitted course calls leaves same) = Cause.no_memory
+causes members words before now old new status =
+    of_status members words before now old new (Cause members words before now old new) status (caused members words before now old new)
+    (λ fault. Cause.sink_fault fault) Cause.no_memory

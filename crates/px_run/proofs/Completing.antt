@@ -28,15 +28,16 @@ use Rattle.px_run.specs.Course.{Course, Untouched, TakenUp, Due, EndsIn, AfterFi
 use Rattle.px_run.specs.Ending.{Ending, of_start, start_ending, nodes_ending, session_ending, runaway_at_start}
 use Rattle.px_run.specs.Reading.{FileKind, with_text, Holds, HoldsNone}
 use Rattle.px_run.specs.Format.{LaysOut, layout_ending}
-use Rattle.px_run.specs.Headline.{CommandCallsFor, Delivers, Headline}
+use Rattle.px_run.specs.Headline.{CommandCallsFor, Headline}
 use Rattle.px_run.specs.Journaled.{DueBehind, NewCalls, RunCallsBy, HasNoJournal, JournalRefuses, AfterJournal, NamesCalls}
 use Rattle.px_run.specs.Kinds.{plan_file, script_file}
 use Rattle.px_run.specs.Soak.{soak_plan, soak_lines, SoakCalls}
 use Rattle.px_run.specs.declared.finishing.Telling.{Telling}
 use Rattle.px_run.specs.declared.finishing.Telling.TheVariants as tellings
-use Rattle.px_run.proofs.Causing.{dry_run_status, soak_journal}
+use Rattle.px_run.proofs.Causing.{dry_run_status, soak_journal, of_status}
 use Rattle.px_run.proofs.Excluding.{some_or_none, same_text, same_first, same_tree, never_none, never_refused, one_status}
 use Rattle.px_run.proofs.FileKinds.{IsKind, plan_kind, script_kind, text_kind, holds_text, held, none_held}
+use Rattle.px_run.proofs.Finished.{where_behind}
 use Rattle.px_run.proofs.SeenFiles.{WhereDue}
 
 -- where no fault of the sink was counted, the status is that of the ending, or 10
@@ -44,13 +45,9 @@ sound_status : {D : Type 0} (members : Disk.Ghosts D) (words : List (List ℕ)) 
     → Headline members words before now old new status → ¬ Faulted before now
     → ((course : Course) (ending : Ending) → CommandCallsFor members (command words) before now old new course (Some ending) → Expected ending.status)
     → (status ≡ 10) ⊎ Expected status
-sound_status members words before now old new Expected _ (Headline.delivered course ending status calls leaves delivers) sound is = by status delivers
-  where
-    by : (s : ℕ) → Delivers before now ending s → (s ≡ 10) ⊎ Expected s
-    by _ (Delivers.whole emits) = inr (is course ending calls)
-    by _ (Delivers.sink_fault part fault) = absurd (sound fault)
-    by _ (Delivers.no_memory part) = inl refl
-sound_status members words before now old new Expected _ (Headline.nothing_emitted course calls leaves same) sound is = inl refl
+sound_status members words before now old new Expected status headline sound is =
+    of_status members words before now old new (λ s. (s ≡ 10) ⊎ Expected s) status (λ course ending calls emits. inr (is course ending calls))
+    (λ fault. absurd (sound fault)) (inl refl) headline
 
 -- carried out, or stalled
 abbrev pub OrStalled : ℕ → ℕ → Type 0
@@ -72,10 +69,9 @@ module _ {D : Type 0} (members : Disk.Ghosts D) (words : List (List ℕ)) (befor
   module _ (steady : ¬ Rose (members.faults old) (members.faults new)) where
     session_sound : (telling : Telling) (plan : List Site) (left : List Todo) (session : Session) (due : Due) → DueBehind members telling plan left session old new due
         → WhereDue (λ ending. OrStalled 0 ending.status) due
-    session_sound telling plan left session _ (DueBehind.whole none all) = inl refl
-    session_sound telling plan left session _ (DueBehind.stalled stalls none stalled) = inr refl
-    session_sound telling plan left session _ (DueBehind.failed some rose) = absurd (steady rose)
-    session_sound telling plan left session _ (DueBehind.no_memory none) = tt
+    session_sound telling plan left session due =
+        where_behind members telling plan left session old new (λ ending. OrStalled 0 ending.status) due (inl refl) (λ stalls stalled. inr refl)
+        (λ rose. absurd (steady rose))
 
     -- over a new journal, on a disk that was nothing: what is so behind its session
     new_sound : (Expected : Ending → Type 0) (telling : Telling) (plan : List Site) (text : List ℕ) (limit : ℕ) (script : Script) (course : Course) (due : Due)
@@ -101,11 +97,9 @@ module _ {D : Type 0} (members : Disk.Ghosts D) (words : List (List ℕ)) (befor
     -- behind the session of a soak
     soak_session_sound : (plan : List Site) (count seed : ℕ) (session : Session) (due : Due)
         → DueBehind members tellings.Summary plan (rest (soak_threads count seed) []) session old new due → WhereDue (λ ending. ending.status ≡ 0) due
-    soak_session_sound plan count seed session _ (DueBehind.whole none all) = refl
-    soak_session_sound plan count seed session _ (DueBehind.stalled stalls none stalled) =
-        absurd (soak_never_stalls plan session.first session.log count seed stalls stalled)
-    soak_session_sound plan count seed session _ (DueBehind.failed some rose) = absurd (steady rose)
-    soak_session_sound plan count seed session _ (DueBehind.no_memory none) = tt
+    soak_session_sound plan count seed session due =
+        where_behind members tellings.Summary plan (rest (soak_threads count seed) []) session old new (λ ending. ending.status ≡ 0) due refl
+        (λ stalls stalled. absurd (soak_never_stalls plan session.first session.log count seed stalls stalled)) (λ rose. absurd (steady rose))
 
   -- the start of a plan behind a journal that doesn't fail
   start_refused : HasJournal words → IsSound members words old new (λ bytes. IsFalse (is_nothing bytes)) → (telling : Telling) (plan : List Site) (text : List ℕ)

@@ -15,6 +15,7 @@ use Rattle.px_output.specs.Printing.{Prints}
 use Rattle.px_output.specs.View.{View}
 use Rattle.px_output.specs.declared.printer.PrintFault.{PrintFault}
 use Rattle.px_output.specs.declared.printer.PrintFault.TheVariants as faults
+use Rattle.px_ports.specs.Host.{Rose}
 use Rattle.px_ports.specs.declared.disk.Disk
 use Rattle.px_ports.specs.declared.moment.Moment.{Moment}
 use Rattle.px_script.specs.Follows.{Follows, AreStalled, IsNextPost}
@@ -29,7 +30,7 @@ use Rattle.px_session.specs.Posting.{Posts, WasDue}
 use Rattle.px_session.specs.Session.{Session, IsFront, LeavesFronts}
 use Rattle.px_session.specs.declared.posting.Posted.{Posted}
 use Rattle.px_run.specs.Course.{Due}
-use Rattle.px_run.specs.Ending.{Ending, stalled_ending}
+use Rattle.px_run.specs.Ending.{Ending, stalled_ending, disk_fault}
 use Rattle.px_run.specs.Finishing.{Finishes}
 use Rattle.px_run.specs.Journaled.{DueBehind}
 use Rattle.px_run.specs.Stops.{Performs, number_of, status_of, stop_of}
@@ -40,6 +41,7 @@ use Rattle.px_run.specs.declared.ending.Refusal.TheVariants as refusals
 use Rattle.px_run.specs.declared.ending.Stop.{Stop}
 use Rattle.px_run.specs.declared.ending.Stop.TheVariants as stops
 use Rattle.px_run.proofs.Performing.{printed, broken_off}
+use Rattle.px_run.proofs.SeenFiles.{WhereDue}
 
 -- at the opening each image stands for the text and the history
 pub opening_stands : {S D : Type 0} (members : Disk.Ghosts D) (exec : Executive S D) (text : List ℕ) (session : Session) → session.text ≡ text
@@ -81,6 +83,16 @@ due_behind_since members telling plan left session old opened new _ later (DueBe
 due_behind_since members telling plan left session old opened new _ later (DueBehind.stalled stalls none stalled) = DueBehind.stalled stalls none stalled
 due_behind_since members telling plan left session old opened new _ later (DueBehind.failed some rose) = DueBehind.failed some (omega (arith, later, rose))
 due_behind_since members telling plan left session old opened new _ later (DueBehind.no_memory none) = DueBehind.no_memory none
+
+-- what holds of what is told, of the stalls and of a fault holds of each ending that is due behind a session
+pub where_behind : {D : Type 0} (members : Disk.Ghosts D) (telling : Telling) (plan : List Site) (left : List Todo) (session : Session) (old new : D)
+    (Expected : Ending → Type 0) (due : Due) → Expected (told_ending telling plan session.first session.log)
+    → ((stalls : List Stall) → AreStalled plan session.first session.log left stalls → Expected (stalled_ending plan session.first session.log stalls))
+    → (Rose (members.faults old) (members.faults new) → Expected disk_fault) → DueBehind members telling plan left session old new due → WhereDue Expected due
+where_behind members telling plan left session old new Expected _ whole stalled failed (DueBehind.whole none all) = whole
+where_behind members telling plan left session old new Expected _ whole stalled failed (DueBehind.stalled stalls none are) = stalled stalls are
+where_behind members telling plan left session old new Expected _ whole stalled failed (DueBehind.failed some rose) = failed rose
+where_behind members telling plan left session old new Expected _ whole stalled failed (DueBehind.no_memory none) = tt
 
 -- a text that breaks off is no refusal
 pub breaks_otherwise : (fault : PrintFault) → ¬ IsErrOf {T = End} (Err (stop_of fault)) (stops.Refused refusals.DiskFault)

@@ -1,16 +1,15 @@
 -- A script's lines are posted at most once, whatever stops there were.
-use Rattle.std.proofs.Common.{◌≡◌, inl, inr, ⊎_elim, ℕ, List, [], ◌++◌, Option, Some, None, IfSome, IsTrue, length, refl, sym, arith, ap, subst, append-nil}
+use Rattle.std.proofs.Common.{◌≡◌, inl, inr, ⊎_elim, ℕ, List, [], ◌++◌, Option, Some, None, IfSome, IsTrue, refl, sym, arith, ap, subst, append-nil}
 use Rattle.std.specs.Option.{option_and_then}
 use Rattle.px_core.specs.Plan.{Site, Tree, sites}
 use Rattle.px_event.specs.declared.entry.Entry.{Entry}
-use Rattle.px_exec.proofs.Images.{left_now}
 use Rattle.px_value.proofs.General.{told_of}
 use Rattle.px_exec.specs.Executive.{TellsBytes}
 use Rattle.px_journal.proofs.Meaning.{one_meaning_history}
+use Rattle.px_journal.proofs.Moments.{left_before}
 use Rattle.px_journal.specs.Journal.{IsUnwritten}
 use Rattle.px_journal.specs.Layout.{is_nothing, entries}
 use Rattle.px_output.specs.View.{View}
-use Rattle.px_ports.specs.Moment.{LeftSince}
 use Rattle.px_ports.specs.declared.disk.Disk
 use Rattle.px_script.proofs.Sounds.{sound_front, sound_follows, sound_next}
 use Rattle.px_script.specs.Fit.{IsFitScript}
@@ -24,7 +23,7 @@ use Rattle.px_sem.specs.Log.{accepted}
 use Rattle.px_sem.specs.Run.{started}
 use Rattle.px_sem.specs.World.{World}
 use Rattle.px_session.proofs.Closed.{ReadsAreLeft}
-use Rattle.px_session.proofs.Sessions.{from_before}
+use Rattle.px_session.proofs.Sessions.{untouched_at_once}
 use Rattle.px_session.specs.Creating.{LeavesNew}
 use Rattle.px_session.specs.Session.{Session, unsure, longest_of, IsFront, LeavesFronts, StandsFor}
 use Rattle.px_words.specs.Words.{Command, TraceStart, DryRun, Check, Format, Run, Resume, Trace, Names, Soak, script_operand, command}
@@ -75,13 +74,11 @@ module _ {D : Type 0} (members : Disk.Ghosts D) (read_left : ReadsAreLeft member
   told : (bytes : List ℕ) × (members.content old ≡ Some bytes)
   told = told_of (members.content old) tells
 
-  still : new ≡ old → AreSound
-  still same image since =
-      was image (left_now members.images (members.moments old) image
-      (subst (λ (d : D). LeftSince members.images (members.moments d) (length (members.moments old)) image) same since))
-
   unwritten : IsUnwritten members old new → AreSound
-  unwritten none image since = was image (from_before members old new none image since)
+  unwritten none image since = was image (left_before members.images (members.moments old) (members.moments new) none.elapses image since)
+
+  still : new ≡ old → AreSound
+  still same = unwritten (subst (IsUnwritten members old) (sym same) (untouched_at_once members old).unwritten)
 
   fronts : (IsEarly : List ℕ → Type 0) (session : Session) → ((image : List ℕ) → IsEarly image → IsTrue (is_nothing image))
       → IsSoundFor script.threads (longest_of session) → LeavesFronts members IsEarly session old new → AreSound

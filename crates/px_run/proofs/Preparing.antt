@@ -13,13 +13,15 @@ use Rattle.px_sem.specs.declared.settling.StepFault.{StepFault}
 use Rattle.px_sem.specs.declared.settling.StepFault.TheVariants as steps
 use Rattle.px_sem.specs.declared.stepper.Stepper
 use Rattle.px_session.proofs.Sessions.{untouched_at_once}
-use Rattle.px_run.specs.Course.{Untouched, AfterFile}
+use Rattle.px_run.specs.Course.{Course, Untouched, Due, AfterFile}
 use Rattle.px_run.specs.Ending.{Ending, runaway_at_start}
 use Rattle.px_run.specs.Reading.{FileKind, Seen, Content, Longer, Unreadable, Refuses, with_text, Reads}
 use Rattle.px_run.specs.Run.{IsPrepared, IsNotPrepared, RunCarries, PreparedCarries}
+use Rattle.px_run.specs.Finishing.{Carries}
 use Rattle.px_run.specs.Journaled.{NewCalls, RunCallsBy, RunCalls}
 use Rattle.px_run.specs.Kinds.{plan_file, script_file}
-use Rattle.px_run.specs.Stops.{StopsReading, stop_of_start, ending_of}
+use Rattle.px_run.specs.Stops.{Performs, StopsReading, stop_of_start, ending_of}
+use Rattle.px_run.specs.declared.ending.End.{End}
 use Rattle.px_run.specs.declared.ending.Stop.{Stop}
 use Rattle.px_run.specs.declared.ending.Stop.TheVariants as stops
 use Rattle.px_run.specs.declared.finishing.Carried.{Carried}
@@ -108,6 +110,32 @@ prepared runs old mid new plan name tree ready source first second short read fi
   started = run_started (sites tree) (runs.state ready.stepper) start at_rest;
 }
 
+-- ---- what a command has carried out
+
+-- one that called for this behind a view from which only reads were made
+pub carries_since : {D : Type 0} (members : Disk.Ghosts D) (name : List ℕ) (Calls More : D → Course → Due → Type 0) (before mid now : View) (old : D)
+    (carried : Carried D) → OnlyReads before mid → ((course : Course) (due : Due) → Calls carried.disk course due → More carried.disk course due)
+    → Carries members name Calls mid now old carried → Carries members name More before now old carried
+carries_since members name Calls More before mid now old carried only widen c = record {
+  course = c.course;
+  performs = performs_since before mid now (Calls carried.disk c.course) (More carried.disk c.course) carried.result only (widen c.course) c.performs;
+  leaves = c.leaves;
+  bound = c.bound;
+  back = c.back;
+}
+
+-- one that made no call of the disk
+pub carries_untouched : {D : Type 0} (members : Disk.Ghosts D) (name : List ℕ) (Calls : D → Course → Due → Type 0) (before now : View) (disk : D)
+    (result : Result End Stop) → members.bound_to disk ≡ None → Performs before now (Calls disk Untouched) result
+    → Carries members name Calls before now disk (record { result = result; disk = disk })
+carries_untouched members name Calls before now disk result unbound performs = record {
+  course = Untouched;
+  performs = performs;
+  leaves = λ tells. untouched_at_once members disk;
+  bound = inr unbound;
+  back = record { tells = refl; kept = λ other. refl };
+}
+
 -- ---- the command
 
 module _ {D : Type 0} (members : Disk.Ghosts D) (plan script name : List ℕ) (limit : ℕ) (old mid new : View) (disk : D) where
@@ -116,21 +144,16 @@ module _ {D : Type 0} (members : Disk.Ghosts D) (plan script name : List ℕ) (l
       → IsPrepared runs plan script old mid ready
       → PreparedCarries members tellings.Text (runs.state ready.stepper).nodes ready.text.items name limit ready.script mid new disk carried
       → RunCarries members plan script name limit old new disk carried
-  prepared_runs runs ready carried only keeps is_ready of_nodes = record {
-    course = done.course;
-    performs = performs_since old mid new (NewCalls members tellings.Text (sites tree) ready.text.items limit ready.script disk carried.disk done.course)
-        (RunCalls members plan script limit old new disk carried.disk done.course) carried.result only
-        (λ due calls. after_reading (List ℕ × Tree) (with_text plan_file) old new plan (ready.text.items, tree) Untouched _ done.course due
-        (reads_later (List ℕ × Tree) (with_text plan_file) old mid new plan (ready.text.items, tree) keeps.read_faults is_ready.source)
-        (after_reading Script (script_file (sites tree)) old new script ready.script Untouched _ done.course due
-        (reads_later Script (script_file (sites tree)) old mid new script ready.script keeps.read_faults is_ready.script)
-        (subst (RunCallsBy members tellings.Text (sites tree) ready.text.items limit ready.script disk carried.disk done.course due)
-        (sym (start_of _ _ _ is_ready.nodes is_ready.started).1) calls)))
-        done.performs;
-    leaves = done.leaves;
-    bound = done.bound;
-    back = done.back;
-  }
+  prepared_runs runs ready carried only keeps is_ready of_nodes =
+      carries_since members name (λ (to : D). NewCalls members tellings.Text (sites tree) ready.text.items limit ready.script disk to)
+      (λ (to : D). RunCalls members plan script limit old new disk to) old mid new disk carried only
+      (λ course due calls. after_reading (List ℕ × Tree) (with_text plan_file) old new plan (ready.text.items, tree) Untouched _ course due
+      (reads_later (List ℕ × Tree) (with_text plan_file) old mid new plan (ready.text.items, tree) keeps.read_faults is_ready.source)
+      (after_reading Script (script_file (sites tree)) old new script ready.script Untouched _ course due
+      (reads_later Script (script_file (sites tree)) old mid new script ready.script keeps.read_faults is_ready.script)
+      (subst (RunCallsBy members tellings.Text (sites tree) ready.text.items limit ready.script disk carried.disk course due)
+      (sym (start_of _ _ _ is_ready.nodes is_ready.started).1) calls)))
+      done
     where
       tree : Tree
       tree = is_ready.tree
@@ -141,24 +164,15 @@ module _ {D : Type 0} (members : Disk.Ghosts D) (plan script name : List ℕ) (l
   -- where none has, the disk is as it was
   pub not_prepared_runs : (stop : Stop) → OnlyReads old mid → members.bound_to disk ≡ None → IsNotPrepared plan script old mid stop
       → RunCarries members plan script name limit old mid disk (record { result = Err stop; disk = disk })
-  not_prepared_runs (stops.Refused refusal) only unbound calls = record {
-    course = Untouched;
-    performs = (
-      after_since (List ℕ × Tree) (with_text plan_file) old old mid plan Untouched _ _ Untouched (Some (ending_of refusal)) (reads_at_once old)
-          (λ source next. after_since Script (script_file (sites source.1)) old old mid script Untouched _ _ Untouched (Some (ending_of refusal)) (reads_at_once old)
-          (λ read runs_away. subst (RunCallsBy members tellings.Text (sites source.1) source.0 limit read disk disk Untouched (Some (ending_of refusal))) (sym runs_away.0) runs_away.1)
-          next) calls,
-      only.emitted,
-    );
-    leaves = λ tells. untouched_at_once members disk;
-    bound = inr unbound;
-    back = record { tells = refl; kept = λ other. refl };
-  }
+  not_prepared_runs (stops.Refused refusal) only unbound calls =
+      carries_untouched members name (λ (to : D). RunCalls members plan script limit old mid disk to) old mid disk (Err (stops.Refused refusal)) unbound (
+        after_since (List ℕ × Tree) (with_text plan_file) old old mid plan Untouched _ _ Untouched (Some (ending_of refusal)) (reads_at_once old)
+            (λ source next. after_since Script (script_file (sites source.1)) old old mid script Untouched _ _ Untouched (Some (ending_of refusal)) (reads_at_once old)
+            (λ read runs_away. subst (RunCallsBy members tellings.Text (sites source.1) source.0 limit read disk disk Untouched (Some (ending_of refusal))) (sym runs_away.0) runs_away.1)
+            next) calls,
+        only.emitted,
+      )
   not_prepared_runs stops.SinkFailed only unbound none = absurd none
-  not_prepared_runs stops.NoMemory only unbound any = record {
-    course = Untouched;
-    performs = inr (AfterFile.no_memory, only.emitted);
-    leaves = λ tells. untouched_at_once members disk;
-    bound = inr unbound;
-    back = record { tells = refl; kept = λ other. refl };
-  }
+  not_prepared_runs stops.NoMemory only unbound any =
+      carries_untouched members name (λ (to : D). RunCalls members plan script limit old mid disk to) old mid disk (Err stops.NoMemory) unbound
+      (inr (AfterFile.no_memory, only.emitted))

@@ -1,6 +1,5 @@
 -- A journal whose names are read: what `names` has come to then.
-use Rattle.std.proofs.Common.{◌≡◌, ◌≢◌, inl, inr, List, [], ℕ, Some, Result, Ok, Err, refl, sym, ◌∙◌, ap, subst}
-use Rattle.std.specs.Prelude.{is_some}
+use Rattle.std.proofs.Common.{◌≡◌, ◌≢◌, inr, List, [], ℕ, Some, Result, Ok, Err, refl, sym, ◌∙◌, ap, subst}
 use Rattle.px_journal.specs.Layout.{entries}
 use Rattle.px_journal.specs.declared.fault.RecoverFault.{RecoverFault}
 use Rattle.px_journal.specs.declared.fault.RecoverWhy.{RecoverWhy}
@@ -22,7 +21,7 @@ use Rattle.px_run.specs.declared.ending.End.{End}
 use Rattle.px_run.specs.declared.ending.End.TheVariants as ends
 use Rattle.px_run.specs.declared.ending.Stop.{Stop}
 use Rattle.px_run.proofs.Performing.{printed, broken_off}
-use Rattle.px_run.proofs.Resumed.{left_taken_up}
+use Rattle.px_run.proofs.Resumed.{carries_taken_up}
 
 module _ {D : Type 0} (members : Disk.Ghosts D) (journal : List ℕ) (old : D) where
   -- none was read
@@ -80,16 +79,9 @@ module _ {D : Type 0} (members : Disk.Ghosts D) (journal : List ℕ) (old : D) w
 
     names_read : (result : Result End Stop) → Performs before now (NamesCalls members old disk course) result
         → NamesCarries members journal before now old (record { result = result; disk = disk })
-    names_read result performs = record {
-      course = course;
-      performs = performs;
-      leaves = λ tells. rw here (left_taken_up members read.plan.items (entries r.found) old read.journal.disk r.untouched tells r.ready.synced stands);
-      bound = inl (ap members.bound_to here ∙ r.bound);
-      back = record {
-        tells = ap (λ d. is_some (members.content d)) here ∙ ap is_some r.untouched.content;
-        kept = λ other. ap members.faults here ∙ r.faults;
-      };
-    }
+    names_read result =
+        carries_taken_up members journal (λ (new : D). NamesCalls members old new) read.plan.items (entries r.found) before now old read.journal.disk disk result
+        r.untouched r.ready.synced stands r.bound r.faults here
 
     pub names_printed : Prints {T = Unit} before [] now [] (names_ending r.found).text (Ok tt)
         → NamesCarries members journal before now old (record { result = Ok ends.Done; disk = disk })

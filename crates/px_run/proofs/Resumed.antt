@@ -1,15 +1,15 @@
 -- A journal that is taken up: what a command has come to then.
-use Rattle.std.proofs.Common.{◌≡◌, ◌≢◌, ◌≤◌, inl, inr, ℕ, List, [], Some, Result, Ok, Err, length, refl, sym, ◌∙◌, ap, subst, arith}
-use Rattle.std.proofs.lemmas.List.{take_all}
+use Rattle.std.proofs.Common.{◌≡◌, ◌≢◌, ◌≤◌, inl, inr, ℕ, List, [], Some, Result, Ok, Err, refl, sym, ◌∙◌, ap, subst, arith}
 use Rattle.std.specs.Prelude.{is_some}
 use Rattle.px_core.specs.Plan.{Site, Tree, tree_of, sites}
 use Rattle.px_event.specs.declared.entry.Entry.{Entry}
-use Rattle.px_exec.proofs.Images.{left_now}
+use Rattle.px_exec.proofs.Images.{leaves_now}
 use Rattle.px_exec.specs.Executive.{plan_of, IsTextOf, TellsBytes}
 use Rattle.px_exec.specs.Opening.{GivesNames}
 use Rattle.px_journal.specs.Crash.{LeavesOnly}
 use Rattle.px_journal.specs.Journal.{IsSynced, IsUntouched}
 use Rattle.px_journal.specs.Layout.{Stands}
+use Rattle.px_journal.proofs.Moments.{left_before}
 use Rattle.px_journal.proofs.Ready.{ready_stands, ready_synced}
 use Rattle.px_output.specs.View.{View, OnlyReads}
 use Rattle.px_ports.specs.Moment.{Elapses, Stays}
@@ -40,7 +40,7 @@ use Rattle.px_run.specs.declared.finishing.Carried.{Carried}
 use Rattle.px_run.specs.declared.finishing.Telling.TheVariants as tellings
 use Rattle.px_output.specs.Printing.{Prints}
 use Rattle.px_output.specs.declared.printer.PrintFault.{PrintFault}
-use Rattle.px_session.proofs.Sessions.{first_front, from_before, images_stand, one_history}
+use Rattle.px_session.proofs.Sessions.{first_front, images_stand, one_history}
 use Rattle.px_run.proofs.Finished.{due_behind_since, leaves_fronts, opening_stands}
 use Rattle.px_run.proofs.Named.{leaves_names}
 use Rattle.px_run.proofs.Performing.{performs_since, performs_more, reading_stopped, printed, broken_off}
@@ -57,12 +57,12 @@ fronts_since members session old opened new untouched stands since =
     leaves_fronts members (λ image. ⊥) session old opened new
     (record {
       grows = ((untouched.unwritten).elapses).grows;
-      each = λ image early. inl (from_before members old opened untouched.unwritten image early);
+      each = λ image early. inl (left_before members.images (members.moments old) (members.moments opened) (untouched.unwritten).elapses image early);
     })
     stands since
 
 -- a journal of this text and history was read, and no more
-pub left_taken_up : {D : Type 0} (members : Disk.Ghosts D) (text : List ℕ) (first : List Entry) (old new : D) → IsUntouched members old new
+left_taken_up : {D : Type 0} (members : Disk.Ghosts D) (text : List ℕ) (first : List Entry) (old new : D) → IsUntouched members old new
     → TellsBytes members old → IsSynced members new → StandsFor members new text first
     → Leaves members old new (TakenUp text first)
 left_taken_up members text first old new untouched tells synced stands =
@@ -70,11 +70,25 @@ left_taken_up members text first old new untouched tells synced stands =
       untouched,
       one_history members new text first synced stands,
       fronts_since members (unposted text first) old new new untouched stands_now
-          (record {
-            grows = take_all (length (members.moments new)) (members.moments new) (omega arith);
-            each = λ image since. first_front (unposted text first) image (stands_now image (left_now members.images (members.moments new) image since));
-          }),
+          (leaves_now members.images (members.moments new) (IsFront (unposted text first)) (λ image left. first_front (unposted text first) image (stands_now image left))),
     )
+
+-- a command that has read such a journal, and hands the disk back as it was read
+pub carries_taken_up : {D : Type 0} (members : Disk.Ghosts D) (journal : List ℕ) (Calls : D → Course → Due → Type 0) (text : List ℕ) (first : List Entry)
+    (before now : View) (old read disk : D) (result : Result End Stop) → IsUntouched members old read → IsSynced members read → StandsFor members read text first
+    → members.bound_to read ≡ Some journal → members.faults read ≡ members.faults old → disk ≡ read
+    → Performs before now (Calls disk (TakenUp text first)) result → Carries members journal Calls before now old (record { result = result; disk = disk })
+carries_taken_up {D} members journal Calls text first before now old read disk result untouched synced stands bound faults here performs = record {
+  course = TakenUp text first;
+  performs = performs;
+  leaves = λ tells. subst (λ (d : D). Leaves members old d (TakenUp text first)) (sym here)
+      (left_taken_up members text first old read untouched tells synced stands);
+  bound = inl (ap members.bound_to here ∙ bound);
+  back = record {
+    tells = ap (λ (d : D). is_some (members.content d)) here ∙ ap is_some untouched.content;
+    kept = λ other. ap members.faults here ∙ faults;
+  };
+}
 
 -- ---- a journal that is not taken up
 
@@ -149,15 +163,6 @@ module _ {D : Type 0} (members : Disk.Ghosts D) (journal : List ℕ) (Next : D �
 
 -- ---- a journal that is taken up
 
--- the disk comes back as it was when the journal was read
-reopened_back : {S D : Type 0} (runs : Stepper.Ghosts S) (members : Disk.Ghosts D) (journal : List ℕ) (limit : ℕ) (old : D) (reopened : Reopened S D)
-    → Reopens members runs journal limit old reopened → (disk : D) → disk ≡ reopened.exec.opening.journal.disk → (result : Result End Stop)
-    → ComesBack members old (record { result = result; disk = disk })
-reopened_back runs members journal limit old reopened r disk here result = record {
-  tells = ap (λ d. is_some (members.content d)) here ∙ ap is_some (r.untouched).content;
-  kept = λ other. ap members.faults here ∙ r.faults;
-}
-
 module _ {S D : Type 0} (runs : Stepper.Ghosts S) (members : Disk.Ghosts D) (script journal : List ℕ) (limit : ℕ) (old : D) (reopened : Reopened S D)
     (r : Reopens members runs journal limit old reopened) (before mid now : View) (only : OnlyReads before mid) where
   abbrev tree : Tree
@@ -169,17 +174,13 @@ module _ {S D : Type 0} (runs : Stepper.Ghosts S) (members : Disk.Ghosts D) (scr
   -- the script is refused, or can't be read
   pub resume_refused : (stop : Stop) (disk : D) → disk ≡ reopened.exec.opening.journal.disk → StopsReading (script_file (sites tree)) before mid script stop
       → ResumeCarries members script journal limit before mid old (record { result = Err stop; disk = disk })
-  resume_refused stop disk here stopped = record {
-    course = taken_up;
-    performs = performs_more before mid (AfterFile (script_file (sites tree)) before mid script taken_up _ taken_up)
-        (ResumeCalls members script limit before mid old disk taken_up) (Err stop)
-        (λ due after. AfterJournal.opened r.text reopened.exec.opening.history tree taken_up due r.stands r.compiled r.settles after)
-        (reading_stopped Script (script_file (sites tree)) before mid script taken_up _ stop (Err stop) refl stopped only);
-    leaves = λ tells. subst (λ (d : D). Leaves members old d taken_up) (sym here)
-        (left_taken_up members r.text reopened.exec.opening.history old reopened.exec.opening.journal.disk r.untouched tells (ready_synced _ _ _ _ r.ready) (ready_stands _ _ _ _ r.ready));
-    bound = inl (ap members.bound_to here ∙ r.bound);
-    back = reopened_back runs members journal limit old reopened r disk here _;
-  }
+  resume_refused stop disk here stopped =
+      carries_taken_up members journal (λ (new : D). ResumeCalls members script limit before mid old new) r.text reopened.exec.opening.history before mid old
+      reopened.exec.opening.journal.disk disk (Err stop) r.untouched (ready_synced _ _ _ _ r.ready) (ready_stands _ _ _ _ r.ready) r.bound r.faults here
+      (performs_more before mid (AfterFile (script_file (sites tree)) before mid script taken_up _ taken_up)
+      (ResumeCalls members script limit before mid old disk taken_up) (Err stop)
+      (λ due after. AfterJournal.opened r.text reopened.exec.opening.history tree taken_up due r.stands r.compiled r.settles after)
+      (reading_stopped Script (script_file (sites tree)) before mid script taken_up _ stop (Err stop) refl stopped only))
 
   -- it is read, and a session goes on with what is left of it
   pub resume_finished : (history : List Entry) (script_left : Script) (carried : Carried D) → history ≡ reopened.exec.opening.history
@@ -198,7 +199,7 @@ module _ {S D : Type 0} (runs : Stepper.Ghosts S) (members : Disk.Ghosts D) (scr
               (opening_stands members reopened.exec r.text f.session (f.is_session).same_text (f.is_session).same_first told r.ready) l.since,
           leaves_names members f.session naming (λ image. ⊥) r.text old reopened.exec.opening.journal carried.disk (f.is_session).same_text refl
               (subst (GivesNames reopened.exec.opening.journal) left.names gives) elapses.grows
-              (λ image early. inl (from_before members old reopened.exec.opening.journal.disk r.untouched.unwritten image early))
+              (λ image early. inl (left_before members.images (members.moments old) (members.moments reopened.exec.opening.journal.disk) elapses image early))
               (f.names told r.found r.named),
         );
     bound = inl (f.goes.stays.bound ∙ r.bound);
@@ -258,14 +259,9 @@ module _ {S D : Type 0} (runs : Stepper.Ghosts S) (members : Disk.Ghosts D) (jou
 
   traced : (result : Result End Stop) → Performs before now (TraceCalls members old disk traced_course) result
       → TraceCarries members journal before now old (record { result = result; disk = disk })
-  traced result performs = record {
-    course = traced_course;
-    performs = performs;
-    leaves = λ tells. subst (λ (d : D). Leaves members old d traced_course) (sym here)
-        (left_taken_up members r.text reopened.exec.opening.history old reopened.exec.opening.journal.disk r.untouched tells (ready_synced _ _ _ _ r.ready) (ready_stands _ _ _ _ r.ready));
-    bound = inl (ap members.bound_to here ∙ r.bound);
-    back = reopened_back runs members journal limit old reopened r disk here _;
-  }
+  traced result =
+      carries_taken_up members journal (λ (new : D). TraceCalls members old new) r.text reopened.exec.opening.history before now old
+      reopened.exec.opening.journal.disk disk result r.untouched (ready_synced _ _ _ _ r.ready) (ready_stands _ _ _ _ r.ready) r.bound r.faults here
 
   pub trace_printed : Prints {T = Unit} before [] now [] traced_ending.text (Ok tt) → TraceCarries members journal before now old (record { result = Ok ends.Done; disk = disk })
   trace_printed prints = traced (Ok ends.Done) (printed before now (TraceCalls members old disk traced_course) ends.Done traced_ending due_trace refl prints)

@@ -1,12 +1,11 @@
 -- A session over a new journal, from the making of the journal and the end of the session.
-use Rattle.std.proofs.Common.{◌≡◌, ◌⊎◌, inl, inr, ⊎_elim, ℕ, List, [], Some, None, IsSome, Err, length, take, refl, sym, ◌∙◌, ap, subst, arith, IsTrue}
-use Rattle.std.proofs.lemmas.List.{take_all}
+use Rattle.std.proofs.Common.{◌≡◌, ◌⊎◌, inl, inr, ⊎_elim, ℕ, List, [], Some, None, IsSome, Err, length, refl, sym, ◌∙◌, ap, subst, arith, IsTrue}
 use Rattle.std.specs.Option.{ForSome}
 use Rattle.px_value.proofs.General.{told_of}
 use Rattle.px_core.specs.Plan.{Site}
 use Rattle.px_crew.proofs.Gathering.{follows_nothing}
 use Rattle.px_event.specs.declared.entry.Entry.{Entry}
-use Rattle.px_exec.proofs.Images.{left_now}
+use Rattle.px_exec.proofs.Images.{leaves_now}
 use Rattle.px_event.specs.declared.names.ThreadName.{ThreadName}
 use Rattle.px_exec.specs.Executive.{Executive, plan_of, TellsBytes, WasNamed}
 use Rattle.px_journal.proofs.Moments.{leaves_more}
@@ -48,14 +47,13 @@ end_of_none text bytes (inr stands) = stands
 module _ {D : Type 0} (members : Disk.Ghosts D) where
   -- a journal was made up to a moment, and each image since then is a front
   fronts_behind : (session : Session) (text : List ℕ) (old mid new : D) → session.text ≡ text → session.first ≡ [] → IsSome (members.content old)
-      → LeavesNew members text old mid → take (length (members.moments mid)) (members.moments new) ≡ members.moments mid
-      → ((image : List ℕ) → members.images (members.moments mid) image → Stands image session.text session.first)
-      → ((image : List ℕ) → LeftSince members.images (members.moments new) (length (members.moments mid)) image → IsFront session image)
+      → LeavesNew members text old mid → ((image : List ℕ) → members.images (members.moments mid) image → Stands image session.text session.first)
+      → LeavesOnly members.images (IsFront session) (members.moments mid) (members.moments new)
       → LeavesFronts members (λ image. IsTrue (is_nothing image)) session old new
-  fronts_behind session text old mid new same_text same_first tells making grows stands since =
+  fronts_behind session text old mid new same_text same_first tells making stands since =
       leaves_fronts members (λ image. IsTrue (is_nothing image)) session old mid new
       (leaves_more members.images (OldOrNew (members.images (members.moments old)) text) _ (members.moments old) (members.moments mid) of_making made)
-      stands (record { grows = grows; each = since })
+      stands since
     where
       told : (bytes : List ℕ) × (members.content old ≡ Some bytes)
       told = told_of (members.content old) tells
@@ -74,11 +72,10 @@ module _ {D : Type 0} (members : Disk.Ghosts D) where
       → HasOneHistory members (unposted text []) new → LeavesFronts members (λ image. IsTrue (is_nothing image)) (unposted text []) old new
   fronts_of_none text old new told_then tells making now =
       let told = told_of (members.content new) tells in
-      fronts_behind (unposted text []) text old new new refl refl told_then making
-      (take_all (length (members.moments new)) (members.moments new) (omega arith))
-      (λ image left. end_of_none text image (now.left told.0 told.1 image left))
-      (λ image since. first_front (unposted text []) image
-      (end_of_none text image (now.left told.0 told.1 image (left_now members.images (members.moments new) image since))))
+      let stands : (image : List ℕ) → members.images (members.moments new) image → Stands image text [] =
+      λ image left. end_of_none text image (now.left told.0 told.1 image left) in
+      fronts_behind (unposted text []) text old new new refl refl told_then making stands
+      (leaves_now members.images (members.moments new) (IsFront (unposted text [])) (λ image left. first_front (unposted text []) image (stands image left)))
 
   -- ---- the names that entries have then
 
@@ -87,12 +84,7 @@ module _ {D : Type 0} (members : Disk.Ghosts D) where
       → LeftSince members.images (members.moments new) (length (members.moments old)) image → members.images (members.moments old) image ⊎ IsUnnamed session image
   early_names session text old new same tells making image left =
       let told = told_of (members.content old) tells in
-      of_making ((making.each told.0 told.1).each image left)
-    where
-      of_making : OldOrNew (members.images (members.moments old)) text image → members.images (members.moments old) image ⊎ IsUnnamed session image
-      of_making (inl was) = inl was
-      of_making (inr (inl nothing)) = inr (inl nothing)
-      of_making (inr (inr stands)) = inr (inr (subst (λ (t : List ℕ). Stands image t []) (sym same) stands))
+      subst (λ (t : List ℕ). OldOrNew (members.images (members.moments old)) t image) (sym same) ((making.each told.0 told.1).each image left)
 
   -- memory ran out right behind the making
   names_of_none : (text : List ℕ) (names : List ThreadName) (old new : D) → TellsBytes members old → LeavesNew members text old new
@@ -165,8 +157,7 @@ module _ {D : Type 0} (members : Disk.Ghosts D) where
         fronts tells =
             let leaves = finished.leaves (made.tells ∙ tells) in
             fronts_behind finished.session text old exec.opening.journal.disk carried.disk session.same_text session.same_first tells made.leaves
-            leaves.since.grows
-            (opening_stands members exec text finished.session session.same_text finished.is_session.same_first (made.tells ∙ tells) made.stands) leaves.since.each
+            (opening_stands members exec text finished.session session.same_text finished.is_session.same_first (made.tells ∙ tells) made.stands) leaves.since
 
     -- none was made, or memory ran out right behind the making
     not_made : (why : CreateWhy) (new : D) → IsSome (run plan []) → IsCreateWhy members text script.names old new why → IsNotCreated members name text script.names old (record { disk = new; why = why })

@@ -13,7 +13,6 @@ use Rattle.px_sem.specs.Stepper.{settled_state}
 use Rattle.px_sem.specs.declared.settling.StepFault.{StepFault}
 use Rattle.px_sem.specs.declared.settling.StepFault.TheVariants as steps
 use Rattle.px_sem.specs.declared.stepper.Stepper
-use Rattle.px_session.proofs.Sessions.{untouched_at_once}
 use Rattle.px_words.specs.Limited.{event_limit}
 use Rattle.px_run.specs.Course.{Untouched}
 use Rattle.px_run.specs.Journaled.{NewCalls, RunCallsBy}
@@ -25,7 +24,8 @@ use Rattle.px_run.specs.declared.ending.Stop.TheVariants as stops
 use Rattle.px_run.specs.declared.finishing.Carried.{Carried}
 use Rattle.px_run.specs.declared.finishing.Telling.TheVariants as tellings
 use Rattle.px_run.specs.declared.run.Prepared.{Prepared}
-use Rattle.px_run.proofs.Performing.{performs_more}
+use Rattle.px_run.proofs.Preparing.{carries_since, carries_untouched}
+use Rattle.px_run.proofs.SeenFiles.{reads_at_once}
 use Rattle.px_run.proofs.Starting.{start_of}
 
 -- a start that runs away, or for which memory is wanting
@@ -59,18 +59,13 @@ module _ {D : Type 0} (members : Disk.Ghosts D) (count seed : ℕ) (name : List 
   pub prepared_soaks : {S : Type 0} (runs : Stepper.Ghosts S) (ready : Prepared S) (carried : Carried D) → IsSoakPrepared runs count seed ready
       → PreparedCarries members tellings.Summary (runs.state ready.stepper).nodes ready.text.items name event_limit ready.script before now disk carried
       → SoakCarries members count seed name before now disk carried
-  prepared_soaks runs ready carried is_ready of_nodes = record {
-    course = done.course;
-    performs = performs_more before now (NewCalls members tellings.Summary (sites is_ready.tree) soak_plan event_limit (soak_lines count seed) disk carried.disk done.course)
-        (SoakCalls members count seed disk carried.disk done.course) carried.result
-        (λ due calls. SoakCalls.starts is_ready.tree done.course due is_ready.compiled
-        (subst (RunCallsBy members tellings.Summary (sites is_ready.tree) soak_plan event_limit (soak_lines count seed) disk carried.disk done.course due)
-        (sym (start_of _ _ _ is_ready.nodes is_ready.started).1) calls))
-        done.performs;
-    leaves = done.leaves;
-    bound = done.bound;
-    back = done.back;
-  }
+  prepared_soaks runs ready carried is_ready of_nodes =
+      carries_since members name (λ (to : D). NewCalls members tellings.Summary (sites is_ready.tree) soak_plan event_limit (soak_lines count seed) disk to)
+      (λ (to : D). SoakCalls members count seed disk to) before before now disk carried (reads_at_once before)
+      (λ course due calls. SoakCalls.starts is_ready.tree course due is_ready.compiled
+      (subst (RunCallsBy members tellings.Summary (sites is_ready.tree) soak_plan event_limit (soak_lines count seed) disk carried.disk course due)
+      (sym (start_of _ _ _ is_ready.nodes is_ready.started).1) calls))
+      done
     where
       done : PreparedCarries members tellings.Summary (sites is_ready.tree) soak_plan name event_limit (soak_lines count seed) before now disk carried
       done =
@@ -84,23 +79,14 @@ module _ {D : Type 0} (members : Disk.Ghosts D) (count seed : ℕ) (name : List 
   -- where none has, the disk is as it was
   pub not_prepared_soaks : (stop : Stop) → members.bound_to disk ≡ None → IsSoakNotPrepared stop
       → SoakCarries members count seed name before before disk (record { result = Err stop; disk = disk })
-  not_prepared_soaks (stops.Refused refusal) unbound (tree, compiled, none, is) = record {
-    course = Untouched;
-    performs = (
-      SoakCalls.starts tree Untouched (Some (ending_of refusal)) compiled
-          (subst (RunCallsBy members tellings.Summary (sites tree) soak_plan event_limit (soak_lines count seed) disk disk Untouched (Some (ending_of refusal))) (sym none)
-          (refl, ap Some is)),
-      refl,
-    );
-    leaves = λ tells. untouched_at_once members disk;
-    bound = inr unbound;
-    back = record { tells = refl; kept = λ other. refl };
-  }
+  not_prepared_soaks (stops.Refused refusal) unbound (tree, compiled, none, is) =
+      carries_untouched members name (λ (to : D). SoakCalls members count seed disk to) before before disk (Err (stops.Refused refusal)) unbound (
+        SoakCalls.starts tree Untouched (Some (ending_of refusal)) compiled
+            (subst (RunCallsBy members tellings.Summary (sites tree) soak_plan event_limit (soak_lines count seed) disk disk Untouched (Some (ending_of refusal))) (sym none)
+            (refl, ap Some is)),
+        refl,
+      )
   not_prepared_soaks stops.SinkFailed unbound none = absurd none
-  not_prepared_soaks stops.NoMemory unbound any = record {
-    course = Untouched;
-    performs = inr (SoakCalls.no_memory, refl);
-    leaves = λ tells. untouched_at_once members disk;
-    bound = inr unbound;
-    back = record { tells = refl; kept = λ other. refl };
-  }
+  not_prepared_soaks stops.NoMemory unbound any =
+      carries_untouched members name (λ (to : D). SoakCalls members count seed disk to) before before disk (Err stops.NoMemory) unbound
+      (inr (SoakCalls.no_memory, refl))

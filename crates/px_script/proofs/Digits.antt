@@ -1,11 +1,11 @@
 -- Numbers in digits, as the library reads them; these and names are text.
-use Rattle.std.proofs.Common.{◌≡◌, ℕ, ◌^◌, ◌<◌, ◌≤◌, true, List, length, refl, ap, arith, Result, Ok, Err, Option, Some, None, inl, inr}
+use Rattle.std.proofs.Common.{◌≡◌, ℕ, ◌^◌, ◌<◌, ◌≤◌, true, List, length, refl, ap, arith, Result, Ok, Err, Option, Some, None}
 use Rattle.std.specs.Prelude.{nat_le, if◌then◌else◌}
 use Rattle.std.specs.List.{list_all}
 use Rattle.std.specs.Result.{result_ok}
 use Rattle.std.specs.Str.{IsUtf8}
 use Rattle.std.specs.Str.Parse.{AllDigits, ParsesUnsigned, digits_value}
-use Rattle.std.proofs.lemmas.Bool.{cases_Bool, and_parts, leb-true}
+use Rattle.std.proofs.lemmas.Bool.{and_parts, false_from_ne_true, leb-true}
 use Rattle.std.proofs.lemmas.Fmt.{IsAscii-from_digits}
 use Rattle.std.proofs.lemmas.Str.{IsUtf8-from_ascii}
 use Rattle.std.proofs.lemmas.Str.Parse.{IsNumeralModel, numerals_by_value, tells_digits, digits_value_short, parse_digits, parse_gives}
@@ -40,10 +40,9 @@ digits_text ds digits = IsUtf8-from_ascii ds (IsAscii-from_digits ds (digits_of 
 
 -- and so are names
 pub no_name : (word : List ℕ) → (IsUtf8 word → ⊥) → None ≡ (if is_report_name word then Some word else None)
-no_name word other = elim (cases_Bool (is_report_name word)) [
-  | inl is ↦ absurd (other (identifier_text word (and_parts (is_identifier word) (nat_le (length word) 64) is).0))
-  | inr isnt ↦ rw isnt refl
-]
+no_name word other =
+    rw (false_from_ne_true (is_report_name word) (λ is.
+    other (identifier_text word (and_parts (is_identifier word) (nat_le (length word) 64) is).0))) refl
 
 -- the thread of a number
 abbrev pub thread_at : ℕ → Option ℕ
@@ -56,9 +55,6 @@ unread ds (Ok number) digits parses none = cc
 unread ds (Err fault) digits parses none =
     let value : ℕ = digits_value 10 ds in
     let large : ¬ ((0 < length ds) × (value < 2 ^ 8)) = parse_digits numerals 8 ds (Err fault) parses (digits_of ds digits) in
-    elim (cases_Bool (is_thread value)) [
-      | inl is ↦
-          let small : value ≤ 8 = leb-true value 8 (and_parts (nat_le 1 value) (nat_le value 8) is).1 in
-          absurd (large (omega (arith, some_of ds digits), omega arith))
-      | inr isnt ↦ rw isnt refl
-    ]
+    rw (false_from_ne_true (is_thread value) (λ is.
+    let small : value ≤ 8 = leb-true value 8 (and_parts (nat_le 1 value) (nat_le value 8) is).1 in
+    large (omega (arith, some_of ds digits), omega arith))) refl

@@ -2,7 +2,7 @@
 use Rattle.std.proofs.Common.{rules, ◌≡◌, ℕ, zero, suc, ◌≤◌, Bool, true, List, [], ◌∷◌, length, map, refl, arith, Option, Some, None, cond}
 use Rattle.std.specs.Prelude.{◌&&◌, ◌==◌, nat_le, codes, IfSome, ⊤}
 use Rattle.std.specs.List.{list_all, AllByRecursion}
-use Rattle.std.specs.Option.{option_map, option_and_then, option_or, unwrap_or}
+use Rattle.std.specs.Option.{option_map, option_and_then, option_or}
 use Rattle.std.specs.Str.{is_utf8}
 use Rattle.std.specs.Str.Parse.{digits_value}
 use Rattle.std.proofs.lemmas.Bool.{le-leb, and_from, cases_Bool, cond_both}
@@ -12,7 +12,7 @@ use Rattle.std.proofs.lemmas.Option.{IfSome_then, MatchOption-at_some}
 use Rattle.px_value.specs.Path.{is_path}
 use Rattle.px_value.specs.declared.value.Value.{Value}
 use Rattle.px_value.specs.declared.value.Value.TheVariants as values
-use Rattle.px_value.proofs.General.{IfSome-map, IfSome-and_then}
+use Rattle.px_value.proofs.General.{IfSome-map, IfSome-and_then, unwrapped_has}
 use Rattle.px_lex.specs.Table.{row_of}
 use Rattle.px_core.specs.declared.node.Kind.{Kind}
 use Rattle.px_core.specs.declared.node.Kind.TheVariants as kinds
@@ -236,13 +236,10 @@ said_fit plan line =
     of_cond IsFitParsedLine (is_same (codes "thread") (first_word line)) _ _ (thread_fit (behind_word line))
     (of_cond IsFitParsedLine (is_utf8 line) _ _ (text_fit plan line) tt)
 
-or_bad : (o : Option ParsedLine) → IfSome o IsFitParsedLine → IsFitParsedLine (unwrap_or o (Faulty BadLine))
-or_bad None fit = tt
-or_bad (Some says) fit = fit
-
 pub parsed_line_fit : (plan : List Site) (line : List ℕ) → IsFitParsedLine (parsed_line plan line)
 parsed_line_fit plan line =
-    cond_both (is_silent (content line)) _ _ IsFitParsedLine (λ _. tt) (λ _. or_bad (said plan (content line)) (said_fit plan (content line)))
+    cond_both (is_silent (content line)) _ _ IsFitParsedLine (λ _. tt) (λ _.
+    unwrapped_has IsFitParsedLine (said plan (content line)) (Faulty BadLine) (said_fit plan (content line)) tt)
 
 abbrev pub AllFit : List ParsedLine → Type 0
 AllFit says = AllByRecursion IsFitParsedLine says

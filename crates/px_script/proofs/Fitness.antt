@@ -4,8 +4,9 @@ use Rattle.std.specs.Prelude.{◌==◌, nat_le, nat_lt, IfSome}
 use Rattle.std.specs.List.{list_all, filter, filter_map, cons_option, range_with_len}
 use Rattle.std.proofs.lemmas.List.{append_assoc, append-nil, length-map, length_push}
 use Rattle.std.proofs.lemmas.Bool.{lt-ltb, leb-false, ltb-true, and_from, eqb-true, cases_Bool}
+use Rattle.std.proofs.lemmas.List.Elements.{filter_map-append}
 use Rattle.std.proofs.lemmas.Result.{IfOk-weaker}
-use Rattle.px_value.proofs.General.{list_all-filter}
+use Rattle.px_value.proofs.General.{list_all-filter, neither, none_from}
 use Rattle.px_core.specs.Plan.{Site}
 use Rattle.px_event.specs.Fit.{is_report_name}
 use Rattle.px_script.specs.declared.fault.FaultKind.{FaultKind}
@@ -78,12 +79,9 @@ each_fit of thread number (says ∷ more) few fit = elim (cases_Bool (thread == 
 -- ---- no thread has too many
 
 none_at : {X Y : Type 0} (f : X → Option Y) (before : List X) (x : X) (behind : List X) → filter_map f (before ++ x ∷ behind) ≡ [] → f x ≡ None
-none_at {Y = Y} f [] x behind none = search (rules, none, behind)
-none_at {Y = Y} f (first ∷ before) x behind none = none_at f before x behind (by (f first) none)
-  where
-    by : (o : Option Y) → cons_option o (filter_map f (before ++ x ∷ behind)) ≡ [] → filter_map f (before ++ x ∷ behind) ≡ []
-    by None none = none
-    by (Some y) none = cc
+none_at f before x behind none = none_from (f x) (λ y is.
+    let left = neither (filter_map f before) (filter_map f (x ∷ behind)) (sym (filter_map-append f before (x ∷ behind)) ∙ none) in
+    let some : y ∷ filter_map f behind ≡ [] = sym (ap (λ o. cons_option o (filter_map f behind)) is) ∙ left.1 in cc)
 
 room_of : (number count : ℕ) → fault_after number count ≡ None → count < 100000
 room_of number count none = search (rules, cases_Bool, count, fault_after, leb-false)

@@ -6,6 +6,7 @@ use Rattle.std.proofs.lemmas.Bool.{cases_Bool, eqb-true}
 use Rattle.std.specs.Borrow.{Bor}
 use Rattle.std.proofs.lemmas.List.{append_assoc, at_drop_more, length_push, map-append}
 use Rattle.px_value.specs.declared.value.Value.{Value}
+use Rattle.px_value.proofs.General.{option_map-map}
 use Rattle.px_script.specs.Place.{in_place, behind_place, behind_sign}
 use Rattle.px_script.specs.SetLine.{with_argument, arguments_from, arguments_in, all_values}
 use Rattle.px_script.specs.Setting.{places_of}
@@ -23,8 +24,8 @@ abbrev pub reading : List (List ℕ) → ℕ → List ℕ → Option Arguments
 reading args most text = option_map (with_arguments args) (arguments_in most text)
 
 push : (args : List (List ℕ)) (arg : List ℕ) (o : Option Arguments) → option_map (with_arguments (args ++ arg ∷ [])) o ≡ option_map (with_arguments args) (option_map (with_argument arg) o)
-push args arg None = refl
-push args arg (Some more) = ap (λ list. Some (list, more.1)) (append_assoc args (arg ∷ []) more.0)
+push args arg = option_map-map (with_arguments args) (with_argument arg) (with_arguments (args ++ arg ∷ []))
+    (λ more. ap (λ (list : List (List ℕ)). (list, more.1)) (append_assoc args (arg ∷ []) more.0))
 
 comma_from : (args : List (List ℕ)) (arg : List ℕ) (more : List ℕ → Option Arguments) (text rest : List ℕ) → behind_sign 44 text ≡ Some rest
     → option_map (with_arguments (args ++ arg ∷ [])) (more rest) ≡ option_map (with_arguments args) (arguments_from arg more text)
@@ -68,8 +69,8 @@ reading_all (Some more) = refl
 -- one value more
 pub value_more : (values : List Value) (value : Value) (o : Option (List Value))
     → option_map (λ more. (values ++ value ∷ []) ++ more) o ≡ option_map (λ more. values ++ more) (option_map (λ more. value ∷ more) o)
-value_more values value None = refl
-value_more values value (Some more) = ap (λ list. Some list) (append_assoc values (value ∷ []) more)
+value_more values value = option_map-map (λ more. values ++ more) (λ more. value ∷ more) (λ more. (values ++ value ∷ []) ++ more)
+    (append_assoc values (value ∷ []))
 
 abbrev values_from : List Value → List (Bor (List ℕ)) → Option (List Value)
 values_from values left = option_map (λ more. values ++ more) (all_values (map argument_of (places_of left)))

@@ -14,7 +14,7 @@ use Rattle.px_core.specs.declared.node.CoreNode.{CoreNode}
 use Rattle.px_core.specs.declared.node.Kind.{Kind}
 use Rattle.px_core.specs.Fit.{has_short_path}
 use Rattle.px_core.specs.Plan.{Tree, NoNode, Branch, Site, sites_under, sites, tree_of_node, is_same, trees_of, below_it}
-use Rattle.px_flat.proofs.Trees.{node_head, sites_of_one, next_is_short}
+use Rattle.px_flat.proofs.Trees.{node_head, sites_of_more, sites_of_one, next_is_short}
 use Rattle.px_script.specs.Telling.{TellKinds, all_kinds, kinds_under, has_short}
 
 abbrev Told : Type 0
@@ -30,21 +30,6 @@ own parent node = (path_of parent node, (node_head node).kind)
 abbrev inner : List ℕ → CoreNode → Told
 inner parent node = kinds_under (path_of parent node) (below_it node)
 
--- ---- nodes side by side
-
-more_kinds : (parent : List ℕ) (nodes more : List CoreNode)
-    → kinds_under parent (trees_of (nodes ++ more)) ≡ kinds_under parent (trees_of nodes) ++ kinds_under parent (trees_of more)
-more_kinds parent [] more = refl
-more_kinds parent (node ∷ nodes) more =
-    ap (kinds_under parent) (node_tree node (trees_of (nodes ++ more)))
-    ∙ ap (λ rest. own parent node ∷ (inner parent node ++ rest)) (more_kinds parent nodes more)
-    ∙ ap (λ all. own parent node ∷ all) (sym (append_assoc (inner parent node) (kinds_under parent (trees_of nodes)) (kinds_under parent (trees_of more))))
-    ∙ ap (λ tree. kinds_under parent tree ++ kinds_under parent (trees_of more)) (sym (node_tree node (trees_of nodes)))
-
-one_kind : (parent : List ℕ) (node : CoreNode) → kinds_under parent (trees_of (node ∷ [])) ≡ own parent node ∷ inner parent node
-one_kind parent node =
-    ap (kinds_under parent) (node_tree node NoNode) ∙ ap (λ all. own parent node ∷ all) (append-nil (inner parent node))
-
 -- whatever stands above the parent
 pub kinds_of_sites : (parent : List ℕ) (above : List (List ℕ)) (tree : Tree)
     → all_kinds (sites_under (parent ∷ above) tree) ≡ kinds_under parent tree
@@ -54,6 +39,20 @@ kinds_of_sites parent above (Branch head children rest) =
     ap (λ all. (path, head.kind) ∷ all)
     (map-append (λ site. (site.path, site.head.kind)) (sites_under (path ∷ parent ∷ above) children) (sites_under (parent ∷ above) rest)
     ∙ (λ i. kinds_of_sites path (parent ∷ above) children i ++ kinds_of_sites parent above rest i))
+
+-- ---- nodes side by side
+
+more_kinds : (parent : List ℕ) (nodes more : List CoreNode)
+    → kinds_under parent (trees_of (nodes ++ more)) ≡ kinds_under parent (trees_of nodes) ++ kinds_under parent (trees_of more)
+more_kinds parent nodes more =
+    sym (kinds_of_sites parent [] (trees_of (nodes ++ more)))
+    ∙ ap all_kinds (sites_of_more (parent ∷ []) nodes more)
+    ∙ map-append (λ (site : Site). (site.path, site.head.kind)) (sites_under (parent ∷ []) (trees_of nodes)) (sites_under (parent ∷ []) (trees_of more))
+    ∙ (λ i. kinds_of_sites parent [] (trees_of nodes) i ++ kinds_of_sites parent [] (trees_of more) i)
+
+one_kind : (parent : List ℕ) (node : CoreNode) → kinds_under parent (trees_of (node ∷ [])) ≡ own parent node ∷ inner parent node
+one_kind parent node =
+    ap (kinds_under parent) (node_tree node NoNode) ∙ ap (λ all. own parent node ∷ all) (append-nil (inner parent node))
 
 -- the paths that are told are as short as those of the sites
 short_as : (parent : List ℕ) (above : List (List ℕ)) (tree : Tree)

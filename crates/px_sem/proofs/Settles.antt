@@ -81,6 +81,11 @@ pub underway_at_once : (from : State) → IsUnderway from from 0
 unfolding after_steps
 underway_at_once from = record { nodes = refl; pending = refl; reached = refl; busy = λ j h. absurd (omega arith) }
 
+-- what is seen of a world on the way is seen of the world after so many steps
+seen_underway : {X : Type 0} (see : List Site → World → X) (from now : State) (count : ℕ) → IsUnderway from now count
+    → see now.nodes now.world ≡ see from.nodes (after_steps from.nodes from.world count)
+seen_underway see from now count u = ap (λ plan. see plan now.world) u.nodes ∙ ap (see from.nodes) u.reached
+
 pub underway_after_step : (from now next : State) (count : ℕ) (made : List Move) (answer : Bool)
     → IsUnderway from now count → answer ≡ true → Steps now next made answer → IsUnderway from next (count + 1)
 unfolding after_steps
@@ -98,10 +103,10 @@ underway_after_step from now next count made true u a s =
     after =
         let step : after_steps from.nodes from.world (suc count) ≡ micro from.nodes (after_steps from.nodes from.world count) = refl in
         let made : next.world ≡ micro now.nodes now.world = ap (λ (x : State). x.world) s.1 in
-        rw add-one (made ∙ ap (λ plan. micro plan now.world) u.nodes ∙ ap (micro from.nodes) u.reached)
+        rw add-one (made ∙ seen_underway micro from now count u)
 
     not_quiet : is_quiet from.nodes (after_steps from.nodes from.world count) ≡ false
-    not_quiet = sym (ap (λ plan. is_quiet plan now.world) u.nodes ∙ ap (is_quiet from.nodes) u.reached) ∙ s.0
+    not_quiet = sym (seen_underway is_quiet from now count u) ∙ s.0
 
     busy : (j : ℕ) → j < count + 1 → is_quiet from.nodes (after_steps from.nodes from.world j) ≡ false
     busy j h = elim (cases_lt j count) [
@@ -115,7 +120,7 @@ pub moves_of_step : (from now next : State) (count : ℕ) (made : List Move) (an
     → made ≡ moves from.nodes (after_steps from.nodes from.world count)
 moves_of_step from now next count made false u a s = cc
 moves_of_step from now next count made true u a s =
-    s.2 ∙ ap (λ plan. moves plan now.world) u.nodes ∙ ap (moves from.nodes) u.reached
+    s.2 ∙ seen_underway moves from now count u
 
 pub quiet_after : (now next : State) (made : List Move) (answer : Bool) → answer ≡ false → Steps now next made answer
     → is_quiet next.nodes next.world ≡ true
@@ -128,7 +133,7 @@ pub settles_at : (from now next : State) (count : ℕ) (made : List Move) (answe
 settles_at from now next count made true u within a s = cc
 settles_at from now next count made false u within a s =
     let quiet : is_quiet from.nodes (after_steps from.nodes from.world count) ≡ true =
-    sym (ap (λ plan. is_quiet plan now.world) u.nodes ∙ ap (is_quiet from.nodes) u.reached) ∙ s.0 in
+    sym (seen_underway is_quiet from now count u) ∙ s.0 in
     let at = least_at (is_quiet_after from.nodes from.world) step_limit count within quiet u.busy in
     let is : next.world ≡ after_steps from.nodes from.world count = ap (λ (x : State). x.world) s.1 ∙ u.reached in
     rw is (ap (option_map (λ k. (after_steps from.nodes from.world k, k))) at)
@@ -162,9 +167,11 @@ underway_within from now count u s = at (settling_count from.nodes from.world) r
     at None e some = cc
     at (Some k) e some = let found = least_found (is_quiet_after from.nodes from.world) step_limit k e in (until k found.passes, found.within)
 
--- the world that a world settles into is quiet
-pub settled_quiet : (plan : List Site) (from to : World) (k : ℕ) → settled plan from ≡ Some (to, k) → is_quiet plan to ≡ true
-settled_quiet plan from to k is =
-    let found = option_map_some {Y = World × ℕ} (λ (j : ℕ). (after_steps plan from j, j)) (settling_count plan from) (to, k) is in
-    subst (λ world. is_quiet plan world ≡ true) (ap (λ (p : World × ℕ). p.0) found.2)
-    (least_found (is_quiet_after plan from) step_limit found.0 found.1).passes
+-- a stepper in the world that a world settles into is quiet
+pub settled_quiet : (plan : List Site) (from : World) (now : State) (k : ℕ) → now.nodes ≡ plan → settled plan from ≡ Some (now.world, k)
+    → is_quiet now.nodes now.world ≡ true
+settled_quiet plan from now k same is =
+    let found = option_map_some {Y = World × ℕ} (λ (j : ℕ). (after_steps plan from j, j)) (settling_count plan from) (now.world, k) is in
+    subst (λ nodes. is_quiet nodes now.world ≡ true) (sym same)
+    (subst (λ world. is_quiet plan world ≡ true) (ap (λ (p : World × ℕ). p.0) found.2)
+    (least_found (is_quiet_after plan from) step_limit found.0 found.1).passes)

@@ -25,7 +25,7 @@ use Rattle.px_sem.specs.World.{World, initial_world, standing_of}
 use Rattle.px_sem.specs.Events.{take}
 use Rattle.px_sem.specs.Log.{Log, events_of, accepted}
 use Rattle.px_sem.specs.Run.{after_steps, settling_count, started, posted, settled_world, run}
-use Rattle.px_value.specs.Text.{quoted}
+use Rattle.px_value.specs.Text.{bracketed, quoted}
 use Rattle.px_sem.specs.Step.{moves}
 
 -- a line
@@ -65,17 +65,13 @@ change_line m =
     line (codes "  " ++ m.node ++ codes ": " ++ state_word m.from ++ codes " -> " ++ state_word m.to
     ++ outcome_text m.outcome ++ failure_text m.failure)
 
-abbrev pub index_text : Option ℕ → List ℕ
-index_text None = []
-index_text (Some index) = codes "[" ++ decimal index ++ codes "]"
-
 abbrev pub pair_text : List ℕ × Value → List ℕ
 pair_text pair = pair.0 ++ codes " = " ++ value_text pair.1
 
 abbrev pub effect_text : Effect → List ℕ
 effect_text effects.NoWrite = codes "no write"
 effect_text (effects.Wrote owner name index value) =
-    owner ++ codes "." ++ name ++ index_text index ++ codes " = " ++ value_text value
+    owner ++ codes "." ++ name ++ bracketed index ++ codes " = " ++ value_text value
 effect_text (effects.Sent command args) = codes "command " ++ command ++ arguments_text args
 effect_text (effects.Aborted command) = codes "abort " ++ command
 effect_text (effects.Updated names values) = codes "update " ++ join_by pair_text (codes ", ") (zip names values)

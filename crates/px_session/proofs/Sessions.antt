@@ -7,8 +7,8 @@ use Rattle.px_exec.specs.Executive.{TellsBytes}
 use Rattle.px_journal.specs.Crash.{OldOrNew}
 use Rattle.px_journal.specs.Journal.{IsSynced, IsUnwritten, IsUntouched}
 use Rattle.px_journal.specs.Layout.{Stands}
-use Rattle.px_journal.proofs.Moments.{grows_length, told_since, leaves_more, leaves_on, elapses_none, elapses_on}
-use Rattle.px_ports.specs.Moment.{LeftSince, Stays}
+use Rattle.px_journal.proofs.Going.{unwritten_then}
+use Rattle.px_journal.proofs.Moments.{grows_length, told_since, left_before, leaves_more, leaves_on, elapses_none}
 use Rattle.px_ports.specs.declared.disk.Disk
 use Rattle.px_sem.specs.Log.{accepted}
 use Rattle.px_session.specs.Creating.{LeavesNew}
@@ -32,10 +32,7 @@ module _ {D : Type 0} (members : Disk.Ghosts D) where
   }
 
   pub unwritten_on : (old mid new : D) → IsUnwritten members old mid → IsUnwritten members mid new → IsUnwritten members old new
-  unwritten_on old mid new first second = record {
-    writes = second.writes ∙ first.writes;
-    elapses = elapses_on members.images Stays (members.moments old) (members.moments mid) (members.moments new) first.elapses second.elapses;
-  }
+  unwritten_on old mid new first second = unwritten_then members first.writes first.elapses second.writes second.elapses
 
   pub untouched_on : (old mid new : D) → IsUntouched members old mid → IsUntouched members mid new → IsUntouched members old new
   untouched_on old mid new first second = record {
@@ -43,19 +40,12 @@ module _ {D : Type 0} (members : Disk.Ghosts D) where
     unwritten = unwritten_on old mid new first.unwritten second.unwritten;
   }
 
-  -- what a crash at a moment of a reading call may leave is an image from before
-  pub from_before : (old new : D) → IsUnwritten members old new → (image : List ℕ) → LeftSince members.images (members.moments new) (length (members.moments old)) image
-      → members.images (members.moments old) image
-  from_before old new unwritten image since =
-      let from = (unwritten.elapses).each image since in
-      subst (members.images (members.moments old)) (sym (from.2)) (from.1)
-
   pub new_read : (text : List ℕ) (old new : D) → IsUntouched members old new → LeavesNew members text old new
   new_read text old new untouched = record {
     grows = ((untouched.unwritten).elapses).grows;
     each = λ told is. record {
       grows = ((untouched.unwritten).elapses).grows;
-      each = λ image since. inl (from_before old new untouched.unwritten image since);
+      each = λ image since. inl (left_before members.images (members.moments old) (members.moments new) (untouched.unwritten).elapses image since);
     };
   }
 
@@ -71,7 +61,7 @@ module _ {D : Type 0} (members : Disk.Ghosts D) where
     where
       older : (image : List ℕ) → OldOrNew (members.images (members.moments mid)) text image → OldOrNew (members.images (members.moments old)) text image
       older image = ⊎_elim
-          (λ was. inl (from_before old mid untouched.unwritten image (told_since members.images (members.moments mid) image (length (members.moments old)) (grows_length (members.moments old) (members.moments mid) ((untouched.unwritten).elapses).grows) was)))
+          (λ was. inl (left_before members.images (members.moments old) (members.moments mid) (untouched.unwritten).elapses image (told_since members.images (members.moments mid) image (length (members.moments old)) (grows_length (members.moments old) (members.moments mid) ((untouched.unwritten).elapses).grows) was)))
           (λ new. inr new)
 
   -- a disk that is synced, and what a read gives is an end of the session

@@ -1,5 +1,5 @@
 -- How far a walk down from a node has come.
-use Rattle.std.proofs.Common.{◌≡◌, ℕ, ◌+◌, ◌<◌, ◌≤◌, false, List, length, set, Option, Some, None, inl, inr, refl, ap, sym, ◌∙◌, subst, arith}
+use Rattle.std.proofs.Common.{◌≡◌, ℕ, ◌+◌, ◌<◌, ◌≤◌, false, List, length, set, Some, inl, inr, refl, ap, sym, ◌∙◌, subst, arith}
 use Rattle.std.specs.Prelude.{if◌then◌else◌}
 use Rattle.std.proofs.lemmas.Bool.{cases_lt, cases_eq, cases_order}
 use Rattle.std.proofs.lemmas.List.{get_or-set_same, get_or-set_other, length-set}
@@ -12,6 +12,7 @@ use Rattle.px_told.specs.Preorder.{parent_of, end_of, IsPreorder}
 use Rattle.px_told.specs.Told.{asked_under, IsTold, AreAllTold, AreOthersTold}
 use Rattle.px_told.proofs.Hearing.{nobody_heard, node_heard}
 use Rattle.px_told.proofs.Places.{parent_before, parent_behind, parent_apart}
+use Rattle.px_told.proofs.Same.{same_under}
 
 -- before `at` each node is told what it is to be told, and from there on, and outside of the subtree, what it was
 pub record IsHandedOn (tree : List Place) (own before told : List Asks) (links now : LinksData) (list node at : ℕ) : Type 0 where
@@ -23,18 +24,13 @@ pub record IsHandedOn (tree : List Place) (own before told : List Asks) (links n
   pub past : (other : ℕ) → end_of tree node ≤ other → asks_at told other ≡ asks_at before other
   pub heard : HasHeard before told links now list
 
-same_under : (own before after : List Asks) (found : Option ℕ)
-    → ((parent : ℕ) → found ≡ Some parent → asks_at after parent ≡ asks_at before parent)
-    → asked_under own before found ≡ asked_under own after found
-same_under own before after None above = refl
-same_under own before after (Some parent) above = ap (either (asks_at own parent)) (sym (above parent refl))
-
 -- what a node is told stays right as it and its parent are told what they were
 still_told : (tree : List Place) (own before after : List Asks) (node : ℕ) → asks_at after node ≡ asks_at before node
     → ((parent : ℕ) → parent_of tree node ≡ Some parent → asks_at after parent ≡ asks_at before parent)
     → IsTold tree own before node → IsTold tree own after node
 still_told tree own before after node here above right =
-    here ∙ right ∙ same_under own before after (parent_of tree node) above
+    here ∙ right ∙ same_under own before own after (parent_of tree node)
+    (λ parent is. ap (either (asks_at own parent)) (sym (above parent is)))
 
 module _ (tree : List Place) (pre : IsPreorder tree) (own before : List Asks) (links : LinksData) (list node : ℕ)
     (long : length before ≡ length tree) (here : node < length tree) (there : list < length links.lists)
@@ -112,8 +108,9 @@ module _ (tree : List Place) (pre : IsPreorder tree) (own before : List Asks) (l
             long = length-set told at asked ∙ way.long;
             right = λ other ahead there. elim (cases_eq other at) [
               | inl same ↦ let P : ℕ → Type 0 = IsTold tree own (set told at asked) in
-                  subst P (sym same) (at_then ∙ is_asked ∙ same_under own told (set told at asked) (parent_of tree at)
-                  (λ parent up. other_then parent (λ e. omega (arith, e, parent_before tree pre at parent within up))))
+                  subst P (sym same) (at_then ∙ is_asked ∙ same_under own told own (set told at asked) (parent_of tree at)
+                  (λ parent up. ap (either (asks_at own parent))
+                  (sym (other_then parent (λ e. omega (arith, e, parent_before tree pre at parent within up))))))
               | inr apart ↦ still_told tree own told (set told at asked) other (other_then other apart)
                   (λ parent up. other_then parent (λ e.
                   omega (arith, e, ahead, parent_before tree pre other parent there up)))

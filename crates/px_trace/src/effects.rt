@@ -1,7 +1,8 @@
 // The texts of what moves do.
 ghost use Rattle.std.specs.Prelude.{◌≡◌, ◌++◌, codes, OnOk, OnErr};
 ghost use Rattle.std.specs.List.{join_by, zip};
-ghost use Rattle.px_sem.specs.Text.{effect_text, index_text, pair_text};
+ghost use Rattle.px_value.specs.Text.{bracketed};
+ghost use Rattle.px_sem.specs.Text.{effect_text, pair_text};
 ghost use Rattle.px_trace.specs.Appending.{Keeps};
 
 use crate::append::push_all;
@@ -46,7 +47,7 @@ fn push_cell(
     out: &mut Vec<u8>,
 ) -> Result<(), NoMemory>
     ensures ok { OnOk result
-        (out.new.items ≡ out.old.items ++ (owner.now ++ codes "." ++ name.now ++ index_text index)) }
+        (out.new.items ≡ out.old.items ++ (owner.now ++ codes "." ++ name.now ++ bracketed index)) }
     ensures err { OnErr result (Keeps out.old.items out.new.items) }
 {
     push_all(out, &[owner.as_str(), ".", name.as_str()])?;

@@ -17,17 +17,19 @@ use Rattle.px_typed.proofs.Effects.{WriteSuits, effects_suit, effects_keep}
 use Rattle.px_typed.proofs.Records.{found, found_named, found_holds, each_is_found, record_of, record_of_step}
 use Rattle.px_typed.proofs.Variables.{HoldsSuiting, Keeps, initial_values_suit, changed_suit, written_suits}
 
+-- what is kept of a node that is found at its path suits
+kept_at : (plan : List Site) (world : World) → IsTyped plan world → (site : Site) → found plan site.path ≡ Some site
+    → KeptSuits plan site.head.body (record_at world site.path).action
+kept_at plan world typed site own =
+    subst (λ s. KeptSuits plan (unwrap_or s no_site).head.body (record_at world site.path).action) own (typed.kept site.path)
+
 -- ---- the writes of a step
 
 own_write_suits : (plan : List Site) (world : World) → IsTyped plan world → (site : Site)
     → found plan site.path ≡ Some site → ForSome (own_write plan world site) (WriteSuits plan)
 own_write_suits plan world typed site own write is =
     option_and_then_some (λ (arrival : Arrival). (effects_of plan world site arrival).write) (transition plan world site) write is
-    (λ arrival there. effects_suit plan world site arrival kept write)
-  where
-    kept : KeptSuits plan site.head.body (record_at world site.path).action
-    kept = subst (λ s. KeptSuits plan (unwrap_or s no_site).head.body (record_at world site.path).action) own
-        (typed.kept site.path)
+    (λ arrival there. effects_suit plan world site arrival (kept_at plan world typed site own) write)
 
 -- ---- the variables of a node
 
@@ -98,9 +100,7 @@ step_keeps plan world typed path =
     by None is = tt
     by (Some site) is =
         let own : found plan site.path ≡ Some site = ap (found plan) (found_named (λ (site : Site). site.path) plan path site is) ∙ is in
-        moved site
-        (subst (λ s. KeptSuits plan (unwrap_or s no_site).head.body (record_at world site.path).action) own (typed.kept site.path))
-        (transition plan world site)
+        moved site (kept_at plan world typed site own) (transition plan world site)
 
 pub step_typed : (plan : List Site) (world : World) → AreDistinct plan → All InitialsSuit plan → IsTyped plan world
     → IsTyped plan (micro plan world)

@@ -1,21 +1,21 @@
 -- What holds of options, Booleans, lists, results and texts in general, and several crates need.
 use mathlib.Core.List.{append-eq-nil_iff}
-use Rattle.std.proofs.Common.{◌≡◌, ℕ, zero, suc, ◌+◌, ◌-◌, ◌<◌, ◌≤◌, ◌==◌, Bool, true, false, cond, nat_lt, List, [], ◌∷◌, ◌++◌, All, AllPairs, find, filter, map, take, drop, length, replicate, get_or, Option, Some, None, is_none, is_some, IsSome, IfSome, option_map, Result, Ok, Err, IsErrAnd, IfErr, refl, sym, ap, ◌∙◌, subst, arith, append_assoc, inl, inr, ◌≢◌}
+use Rattle.std.proofs.Common.{◌≡◌, ℕ, zero, suc, ◌+◌, ◌-◌, ◌<◌, ◌≤◌, ◌==◌, Bool, true, false, ◌||◌, cond, nat_lt, List, [], ◌∷◌, ◌++◌, All, AllPairs, find, filter, map, take, drop, length, replicate, get_or, Option, Some, None, is_none, is_some, IsSome, IfSome, option_map, Result, Ok, Err, IsErrAnd, IfErr, refl, sym, ap, ◌∙◌, subst, arith, append_assoc, inl, inr, ◌≢◌}
 use Rattle.std.specs.List.{cons_option, filter_map, list_all, list_any, position, position_or_len, prefix_len, range_with_len, AllByRecursion as Each}
 use Rattle.std.specs.Map.{lookup}
-use Rattle.std.specs.Option.{option_and_then, option_or}
+use Rattle.std.specs.Option.{option_and_then, option_or, unwrap_or}
 use Rattle.std.specs.Result.{OnErr, OnOk}
 use Rattle.std.specs.Str.{is_utf8, IsUtf8}
-use Rattle.std.proofs.lemmas.Bool.{and_parts, cases_lt, cond-false, false_from_ne_true, ltb-false, not-true, or_cases, or_left, or_right, false≢true}
+use Rattle.std.proofs.lemmas.Bool.{and_parts, cases_lt, cond-false, false_from_ne_true, lt-ltb, ltb-false, not-true, or_cases, or_left, or_right, false≢true}
 use Rattle.std.proofs.lemmas.Bool.Decides.{nat_tests, same_from_decides}
 use Rattle.std.proofs.lemmas.List.{drop_more, get_or-map, get_or_past, length-map, length-take, take-take}
 use Rattle.std.proofs.lemmas.Grind.{common_steps}
 use Rattle.std.proofs.lemmas.List.Elements.{All-append, All-cons, All-drop, All-filter, All-from_recursion, All-head, All-nil, All-replicate, All-tail, All-take, All-weaker, recursion_from_All}
-use Rattle.std.proofs.lemmas.List.Folds.{list_all-append, list_any_at, map_fixed}
+use Rattle.std.proofs.lemmas.List.Folds.{list_all-append, list_any-append, list_any_at, map_fixed}
 use Rattle.std.proofs.lemmas.List.FromFn.{map-range_with_len_more}
 use Rattle.std.proofs.lemmas.List.Kept.{AllPairs-cons}
 use Rattle.std.proofs.lemmas.List.Quantifiers.{all_pairs_push}
-use Rattle.std.proofs.lemmas.List.Sums.{fails_before_first, AllPass-from_list_all, list_all-from_AllPass}
+use Rattle.std.proofs.lemmas.List.Sums.{fails_before_first, position_or_len_is, AllPass-from_list_all, list_all-from_AllPass}
 use Rattle.std.proofs.lemmas.Option.{none-some}
 use Rattle.std.proofs.lemmas.Str.{IsUtf8-from_is_utf8}
 use Rattle.std.proofs.NetLemmas.Options.{map_some}
@@ -23,6 +23,7 @@ use Rattle.std.proofs.iter.Lists.{front as cut_first}
 use Rattle.std.proofs.iter.Next.{is_mapped}
 use Rattle.std.proofs.option.Match.{None-if_not_some, not_some, Some-tests}
 use Rattle.std.proofs.result.Match.{if_ok_any}
+use Rattle.std.proofs.Math.Bool.{or-false, or_comm}
 use Rattle.std.proofs.Math.Seq.{drop-append_seam, take-append_seam}
 use Rattle.std.proofs.Recursive.{every_back, every_front}
 
@@ -56,6 +57,12 @@ pub option_map_none : {X Y : Type 0} (f : X → Y) (found : Option X) → option
 option_map_none f None is = refl
 option_map_none f (Some x) is = absurd (none-some (f x) (sym is))
 
+-- what two functions make one after the other is made at once by one that does what they do
+pub option_map-map : {X Y Z : Type 0} (g : Y → Z) (f : X → Y) (both : X → Z) → ((x : X) → both x ≡ g (f x)) → (found : Option X)
+    → option_map both found ≡ option_map g (option_map f found)
+option_map-map g f both same None = refl
+option_map-map g f both same (Some x) = ap Some (same x)
+
 -- what is held by an option that holds something
 pub told_of : {X : Type 0} (found : Option X) → IsSome found → (told : X) × (found ≡ Some told)
 told_of None some = absurd (cc)
@@ -69,6 +76,11 @@ IfSome-map P f (Some x) holds = holds x refl
 pub IfSome-and_then : {X Y : Type 0} (P : Y → Type 0) (f : X → Option Y) (found : Option X) → ((x : X) → found ≡ Some x → IfSome (f x) P) → IfSome (option_and_then f found) P
 IfSome-and_then P f None holds = tt
 IfSome-and_then P f (Some x) holds = holds x refl
+
+-- and of it or what stands for nothing
+pub unwrapped_has : {X : Type 0} (P : X → Type 0) (found : Option X) (default : X) → IfSome found P → P default → P (unwrap_or found default)
+unwrapped_has P None default some none = none
+unwrapped_has P (Some x) default some none = some
 
 -- an option that is told holds something
 pub is_some_at : {X : Type 0} (found : Option X) (x : X) → found ≡ Some x → IsSome found
@@ -86,6 +98,10 @@ cut_at xs place x within is = drop_more xs place x within ∙ ap (λ first. firs
 -- a list is its first item and the rest
 pub first_and_rest : {X : Type 0} (xs : List X) (x : X) → 0 < length xs → x ≡ get_or xs 0 x → xs ≡ x ∷ take (length xs - 1) (drop 1 xs)
 first_and_rest xs x some is = cut_first xs x (λ none. omega (arith, some, none)) is
+
+-- a list of one item is that item alone
+pub only_one : {X : Type 0} (xs : List X) (x : X) → length xs ≡ 1 → x ≡ get_or xs 0 x → xs ≡ x ∷ []
+only_one xs x one is = first_and_rest xs x (omega (arith, one)) is ∙ ap (λ n. x ∷ take (n - 1) (drop 1 xs)) one
 
 -- what holds of each element and of the default holds of what is read
 pub read_anywhere : {X : Type 0} (P : X → Type 0) (xs : List X) (k : ℕ) (d : X) → All P xs → P d → P (get_or xs k d)
@@ -141,6 +157,12 @@ each_map P Q xs f each = recursion_from_All Q xs (All-weaker P Q f xs (All-from_
 pub All-unmap : {X Y : Type 0} (P : Y → Type 0) (f : X → Y) (xs : List X) → All P (map f xs) → All (λ x. P (f x)) xs
 All-unmap P f xs all k d within = subst P (get_or-map f xs k d (f d) within) (all k (f d) (omega (arith, length-map xs f)))
 
+-- two functions that agree on each item map a list alike
+pub map-same : {X Y : Type 0} (f g : X → Y) (xs : List X) → All (λ x. f x ≡ g x) xs → map f xs ≡ map g xs
+map-same f g [] same = refl
+map-same f g (x ∷ xs) same = λ i.
+    same 0 x (omega arith) i ∷ map-same f g xs (λ k d within. same (suc k) d (omega (arith, within))) i
+
 -- what holds of all that each element gives holds of all that is given
 given_first : {X : Type 0} (P : X → Type 0) (o : Option X) (xs : List X) → IfSome o P → All P xs → All P (cons_option o xs)
 given_first P None xs one all = all
@@ -170,6 +192,11 @@ list_any-weaker strong weak each (x ∷ xs) any = elim (or_cases (strong x) (lis
   | inr later ↦ or_right (weak x) (list_any weak xs) (list_any-weaker strong weak each xs later)
 ]
 
+-- one more at the end passes as one more in front does
+pub list_any-push : {X : Type 0} (p : X → Bool) (xs : List X) (x : X) → list_any p (xs ++ x ∷ []) ≡ (p x || list_any p xs)
+list_any-push p xs x =
+    list_any-append p xs (x ∷ []) ∙ ap (λ b. list_any p xs || b) (or-false (p x)) ∙ or_comm (list_any p xs) (p x)
+
 -- what passes a test that fails beyond the end stands within
 pub passes_within : {X : Type 0} (p : X → Bool) (xs : List X) (k : ℕ) (d : X) → p d ≡ false → p (get_or xs k d) ≡ true → k < length xs
 passes_within p xs k d fails passes = elim (cases_lt k (length xs)) [
@@ -192,6 +219,13 @@ nowhere p xs k d none within = by (nat_lt (position_or_len p xs) (length xs)) re
         → p (get_or xs k d) ≡ false
     by true is none = absurd (cc none)
     by false is none = fails_before_first p xs k d (omega (arith, within, ltb-false (position_or_len p xs) (length xs) is))
+
+-- what passes behind none that does stands first
+pub position_is : {X : Type 0} (p : X → Bool) (xs : List X) (k : ℕ) (d : X) → k < length xs
+    → ((before : ℕ) → before < k → p (get_or xs before d) ≡ false) → p (get_or xs k d) ≡ true → position p xs ≡ Some k
+position_is p xs k d within fails passes =
+    let first : position_or_len p xs ≡ k = position_or_len_is p xs k d (omega (arith, within)) fails (λ inside. passes) in
+    rw (first, lt-ltb k (length xs) within) refl
 
 -- none of a range passes
 pub no_filtered : (p : ℕ → Bool) (from count : ℕ) → ((k : ℕ) → k < count → p (from + k) ≡ false) → filter p (range_with_len from count) ≡ []

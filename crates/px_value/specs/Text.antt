@@ -1,5 +1,5 @@
--- What a text value holds, and how it is spelled between quotes.
-use Rattle.std.specs.Prelude.{ℕ, Bool, nat_le, nat_eq, List, [], ◌∷◌, ◌++◌, length, map, Option, Some, None, codes}
+-- What a text value holds, and how it is spelled between quotes; a number between brackets.
+use Rattle.std.specs.Prelude.{ℕ, Bool, nat_le, nat_eq, List, [], ◌∷◌, ◌++◌, length, map, Option, Some, None, codes, decimal}
 use Rattle.std.specs.List.{flat_map}
 use Rattle.std.specs.Map.{lookup}
 
@@ -31,3 +31,8 @@ escaped byte = escaped_as byte (escape_letter byte)
 -- the spelling of a string: its content between quotes
 abbrev pub quoted : List ℕ → List ℕ
 quoted content = codes "\"" ++ (flat_map escaped content ++ codes "\"")
+
+-- a number between brackets, where there is one: the size of an array, or the index of an element
+abbrev pub bracketed : Option ℕ → List ℕ
+bracketed None = []
+bracketed (Some number) = codes "[" ++ (decimal number ++ codes "]")

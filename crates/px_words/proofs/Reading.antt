@@ -10,6 +10,7 @@ use Rattle.std.proofs.lemmas.Option.{option_and_then_some}
 use Rattle.std.proofs.lemmas.Slice.Eq.{bytes_eq-Decides}
 use Rattle.std.proofs.lemmas.Str.{IsUtf8-string_bytes}
 use Rattle.std.proofs.option.Match.{None-if_not_some}
+use Rattle.px_value.proofs.General.{option_map-map}
 use Rattle.px_core.specs.Plan.{is_same}
 use Rattle.clap.specs.Walk.{Held, Row, Text, Waiting, is_empty, first_of, has_row, idle, option, positional, with_values, without}
 use Rattle.clap.specs.declared.builder.value_parser.Reading.TheVariants.{AsWritten}
@@ -195,8 +196,8 @@ limits_on held rows is_behind (word ∷ words) s none texts = by
     (kind_of word texts.0)
   where
     more : (o : Option Limited) → option_map (with_front (operands_in (operand_row word rows))) o ≡ option_map (with_front (operands_in rows)) (option_map (with_operand word) o)
-    more None = refl
-    more (Some found) = rw (operand_added AsWritten CommandLine (word ∷ []) rows, append_assoc (operands_in rows) (word ∷ []) found.operands) refl
+    more = option_map-map (with_front (operands_in rows)) (with_operand word) (with_front (operands_in (operand_row word rows)))
+        (λ found. rw (operand_added AsWritten CommandLine (word ∷ []) rows, append_assoc (operands_in rows) (word ∷ []) found.operands) refl)
 
     named : (l : IsLong word) → bytes_eq (codes "events") l.name ≡ true → l.number ≡ None
         → read true held (ready is_behind) false (word ∷ words) ≡ option_map (with_front (operands_in rows)) (limited_by_next words)

@@ -1,14 +1,14 @@
 use Rattle.std.proofs.Common.{◌∷◌, [], List, map, flat_map, refl, ap, sym, ◌∙◌}
 use Rattle.std.specs.List.{list_any}
 use Rattle.std.proofs.lemmas.List.{map-append}
-use Rattle.px_value.proofs.General.{none_from}
+use Rattle.px_value.proofs.General.{list_any-push, none_from}
 use Rattle.px_syntax.specs.Block.{item_data}
 use Rattle.px_syntax.specs.BlockFaults.{is_same_once, once_in, repeated}
 use Rattle.px_syntax.specs.declared.block.Item.{Item}
 use Rattle.px_syntax.specs.declared.fault.FaultKind.TheVariants.{DoubleCondition}
 use Rattle.px_check.specs.Once.{once_data}
 use Rattle.px_check.specs.declared.once.Once.{Once}
-use Rattle.px_check.proofs.ItemWalks.{once_none, once_some, once_again, put_last}
+use Rattle.px_check.proofs.ItemWalks.{once_none, once_some, once_again}
 use Rattle.px_check.proofs.Walking.{all_walked}
 use Rattle.px_check.proofs.once.note_repeated.Goals as goal
 use Rattle.px_check.proofs.once.note_repeated.Goals.{in-Some+then-not-is_again+in_ok-push, in-Some+else-not-is_again, in_default}
@@ -29,7 +29,7 @@ loop-item-preserved c =
           (λ one. ap (λ seen. list_any (is_same_once one) (map once_data seen))
           (ap (λ seen. seen.items) w.seen-is ∙ w.in_ok-push.ensures.items)
           ∙ ap (list_any (is_same_once one)) (map-append once_data before (w.in-Some.part ∷ []))
-          ∙ put_last (once_data w.in-Some.part) (map once_data before) one)
+          ∙ list_any-push (is_same_once one) (map once_data before) (once_data w.in-Some.part))
           ∙ c.loop-item.invariant
       | in-Some+else-not-is_again w ↦
           once_some items place item c.once_in.result c.loop-item-test.true c.item-item.is c.once_in.ensures before _

@@ -1,5 +1,4 @@
-use Rattle.std.proofs.Common.{◌≡◌, ℕ, Result, Err, true, ap, sym, subst, ◌∙◌, ◌+◌, arith, refl}
-use Rattle.px_sem.specs.Conflicts.{is_quiet}
+use Rattle.std.proofs.Common.{ℕ, Result, Err, ap, sym, subst, ◌∙◌, ◌+◌, arith, refl}
 use Rattle.px_sem.specs.Stepper.{State, settled_state}
 use Rattle.px_sem.specs.declared.settling.StepFault.{StepFault}
 use Rattle.px_sem.proofs.Settles.{settled_quiet}
@@ -18,9 +17,7 @@ advance-requires-clause-nothing g c = ap (λ (s : State). s.pending) c.loop-entr
 
 pub settle-requires-clause-quiet : goal.settle-requires-clause-quiet
 settle-requires-clause-quiet g c =
-    let new = g.S.Stepper.state c.advance.new.self in
-    subst (λ nodes. is_quiet nodes new.world ≡ true) (sym (ap (λ (s : State). s.nodes) c.in-Ok.ensures.pending))
-    (settled_quiet _ _ _ _ c.in-Ok.ensures.settled)
+    settled_quiet _ _ (g.S.Stepper.state c.advance.new.self) _ (ap (λ (s : State). s.nodes) c.in-Ok.ensures.pending) c.in-Ok.ensures.settled
 
 pub returns-in-Err-Runaway-clause-why : goal.returns-in-Err-Runaway-clause-why
 returns-in-Err-Runaway-clause-why g c =

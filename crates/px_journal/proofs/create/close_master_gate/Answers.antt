@@ -3,6 +3,7 @@ use Rattle.std.proofs.lemmas.Bool.{both_ways}
 use Rattle.px_ports.specs.Moment.{Stays}
 use Rattle.px_journal.specs.Layout.{is_nothing}
 use Rattle.px_journal.proofs.Creating.{closed_nothing, not_nothing, gate_read, same_leaves, short_leaves}
+use Rattle.px_journal.proofs.Going.{unwritten_then}
 use Rattle.px_journal.proofs.Reading.{front_open, front_closed}
 use Rattle.px_journal.proofs.Undamaged.{open_not_closed}
 use Rattle.px_journal.proofs.Moments.{elapses_on}
@@ -28,10 +29,7 @@ returns-then-branch-lt-TEXT_PLACE-clause-old_or_nothing g c = λ told is.
 pub returns-in_err-read_at-clause-untouched : goal.returns-in_err-read_at-clause-untouched
 returns-in_err-read_at-clause-untouched g c = λ told is other. record {
   content = c.read_at.ensures.reads.bytes ∙ c.len.ensures.reads.bytes;
-  unwritten = record {
-    writes = c.read_at.ensures.unwritten ∙ c.len.ensures.unwritten;
-    elapses = elapses_on g.D.Disk.images Stays _ _ _ c.len.ensures.reads.elapses c.read_at.ensures.reads.elapses;
-  };
+  unwritten = unwritten_then g.D.Disk c.len.ensures.unwritten c.len.ensures.reads.elapses c.read_at.ensures.unwritten c.read_at.ensures.reads.elapses;
 }
 
 pub returns-in_err-read_at-clause-old_or_nothing : goal.returns-in_err-read_at-clause-old_or_nothing
@@ -47,10 +45,7 @@ returns-then-gate-ne-CLOSED-clause-exists g c = λ refused told is.
 pub returns-then-gate-ne-CLOSED-clause-untouched : goal.returns-then-gate-ne-CLOSED-clause-untouched
 returns-then-gate-ne-CLOSED-clause-untouched g c = λ told is other. record {
   content = c.read_at.ensures.reads.bytes ∙ c.len.ensures.reads.bytes;
-  unwritten = record {
-    writes = c.read_at.ensures.unwritten ∙ c.len.ensures.unwritten;
-    elapses = elapses_on g.D.Disk.images Stays _ _ _ c.len.ensures.reads.elapses c.read_at.ensures.reads.elapses;
-  };
+  unwritten = unwritten_then g.D.Disk c.len.ensures.unwritten c.len.ensures.reads.elapses c.read_at.ensures.unwritten c.read_at.ensures.reads.elapses;
 }
 
 pub returns-then-gate-ne-CLOSED-clause-old_or_nothing : goal.returns-then-gate-ne-CLOSED-clause-old_or_nothing

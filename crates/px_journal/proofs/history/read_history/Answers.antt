@@ -1,6 +1,6 @@
 use Rattle.std.proofs.Common.{◌≡◌, [], ◌∷◌, Err, length, sym, ◌∙◌, ap, arith, length-append}
 use Rattle.px_journal.specs.declared.fault.RecoverWhy.TheVariants as whys
-use Rattle.px_journal.proofs.Going.{err_is, handed_to, handed_from, other_fault, reads_then, reads_told}
+use Rattle.px_journal.proofs.Going.{fault_came, handed_to, handed_from, other_fault, reads_then, reads_told}
 use Rattle.px_journal.proofs.Histories.{entries_count}
 use Rattle.px_journal.proofs.Walking.{read_next, read_both, read_damaged, read_nothing, full_history, room_in_history}
 use Rattle.px_journal.proofs.Windows.{shows_nothing}
@@ -42,7 +42,7 @@ pub returns-in_err-named-clause-damaged : goal.returns-in_err-named-clause-damag
 returns-in_err-named-clause-damaged g c = λ at refused.
     let both = c.loop-window.invariant.0 in
     let count : c.len.result ≡ length both.named = omega (arith, c.len.ensures, c.loop-window.entries.ok.0, entries_count both.named _ both.entries_are) in
-    let why = err_is c.from_residual-in_err-named.result (whys.Damaged at) c.in_err-named.field-0.0 c.from_residual-in_err-named.ensures.1 refused in
+    let why = fault_came c.from_residual-in_err-named.result (whys.Damaged at) c.in_err-named.field-0.0 c.from_residual-in_err-named.ensures.1 refused in
     read_damaged g.D.Disk c.args.disk.now _ c.args.version c.args.plan.now c.args.size both.named c.loop-window.gate both.read at _
     (λ full. sym count ∙ full_history _ full) (λ room. omega (arith, count, room_in_history _ (omega (arith, count, both.read.few)) room))
     (c.in_err-named.ensures.damaged at (ap Err why))

@@ -1,19 +1,19 @@
 use Rattle.std.proofs.Common.{Err, ◌∙◌, ap, arith}
 use Rattle.px_journal.specs.declared.fault.RecoverWhy.TheVariants as whys
 use Rattle.px_journal.proofs.Creating.{not_nothing}
-use Rattle.px_journal.proofs.Going.{err_is, handed_to, handed_from, reads_by_call, reads_then, reads_told}
+use Rattle.px_journal.proofs.Going.{fault_came, handed_to, handed_from, reads_by_call, reads_then, reads_told}
 use Rattle.px_journal.proofs.Undamaged.{open_not_closed}
 use Rattle.px_journal.proofs.recover.read_stable.Goals as goal
 
 pub returns-in_err-version-clause-damaged : goal.returns-in_err-version-clause-damaged
 returns-in_err-version-clause-damaged g c = λ at refused told is.
-    let why = err_is c.from_residual-in_err-version.result (whys.Damaged at) c.in_err-version.field-0.0 c.from_residual-in_err-version.ensures.1 refused in
+    let why = fault_came c.from_residual-in_err-version.result (whys.Damaged at) c.in_err-version.field-0.0 c.from_residual-in_err-version.ensures.1 refused in
     let found = c.in_err-version.ensures.damaged at (ap Err why) told (c.len.ensures.reads.bytes ∙ is) in
     (not_nothing told (omega (arith, c.in_ok-size.ensures.length told is, c.if-size-lt-TEXT_PLACE.false)) (open_not_closed told (found.0)), found.1)
 
 pub returns-in_err-history-clause-damaged : goal.returns-in_err-history-clause-damaged
 returns-in_err-history-clause-damaged g c = λ at refused told is.
-    let why = err_is c.from_residual-in_err-history.result (whys.Damaged at) c.in_err-history.field-0.0 c.from_residual-in_err-history.ensures.1 refused in
+    let why = fault_came c.from_residual-in_err-history.result (whys.Damaged at) c.in_err-history.field-0.0 c.from_residual-in_err-history.ensures.1 refused in
     let opened = c.in_ok-version.ensures.opens told (c.len.ensures.reads.bytes ∙ is) in (
       not_nothing told (omega (arith, c.in_ok-size.ensures.length told is, c.if-size-lt-TEXT_PLACE.false)) (open_not_closed told (opened.0)),
       c.in_err-history.ensures.damaged at (ap Err why) told (c.read_text.ensures.reads.only.bytes ∙ c.read_heading.ensures.reads.only.bytes ∙ c.len.ensures.reads.bytes ∙ is),

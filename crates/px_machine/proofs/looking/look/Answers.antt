@@ -1,10 +1,11 @@
 use Rattle.std.proofs.Common.{◌≡◌, ◌≢◌, ℕ, ◌<◌, [], ◌∷◌, length, AllPairs, Option, Some, IfSome, refl, ap, sym, ◌∙◌, subst, arith}
 use Rattle.px_value.proofs.General.{is_some_at, none_from}
 use Rattle.px_links.specs.Links.{LinksData, holder_of, rest_of}
+use Rattle.px_links.proofs.Once.{once-nth}
 use Rattle.px_links.proofs.Walking.{not_again}
 use Rattle.px_parts.specs.Parts.{plan_in}
 use Rattle.px_machine.specs.Queue.{IsWoken}
-use Rattle.px_machine.proofs.Looks.{HaveLookedBut, looked_at_all, looked_at_none, looked_at_one, now_with_mark, others_once, right_with_mark, simulation, woken_once}
+use Rattle.px_machine.proofs.Looks.{HaveLookedBut, looked_at_all, looked_at_none, looked_at_one, now_with_mark, others_once, right_with_mark, simulation}
 use Rattle.px_machine.proofs.looking.look.Goals as goal
 
 pub woken-init : goal.woken-init
@@ -18,7 +19,7 @@ woken-init c =
       right = c.requires.right;
       now = c.requires.now;
       conditions = refl;
-      once = subst (AllPairs (λ a b. a ≢ b)) (sym first.walk) (woken_once kept.queue.lists c.each_once.ensures.once);
+      once = subst (AllPairs (λ a b. a ≢ b)) (sym first.walk) (once-nth kept.queue.lists 1 c.each_once.ensures.once);
       within = first.within;
       woken = first.holder;
     }

@@ -1,5 +1,4 @@
-use Rattle.std.proofs.Common.{◌≡◌, ◌+◌, List, ℕ, [], ◌++◌, true, ap, sym, subst}
-use Rattle.px_sem.specs.Conflicts.{is_quiet}
+use Rattle.std.proofs.Common.{◌+◌, List, ℕ, [], ◌++◌, ap, sym, subst}
 use Rattle.px_sem.specs.Stepper.{State}
 use Rattle.px_sem.specs.Text.{heading_text}
 use Rattle.px_sem.proofs.Settles.{settled_quiet}
@@ -9,9 +8,7 @@ use Rattle.px_output.proofs.drafting.post_drafted.Goals as goal
 
 pub settle-requires-clause-quiet : goal.settle-requires-clause-quiet
 settle-requires-clause-quiet g c =
-    let new : State = g.S.Stepper.state c.advance_drafted.new.stepper in
-    subst (λ nodes. is_quiet nodes new.world ≡ true) (sym (ap (λ (s : State). s.nodes) c.in-Ok.ensures.pending))
-    (settled_quiet _ _ _ _ c.in-Ok.ensures.settled.1)
+    settled_quiet _ _ (g.S.Stepper.state c.advance_drafted.new.stepper) _ (ap (λ (s : State). s.nodes) c.in-Ok.ensures.pending) c.in-Ok.ensures.settled.1
 
 pub returns-in-Ok-clause-keeps : goal.returns-in-Ok-clause-keeps
 returns-in-Ok-clause-keeps g c =

@@ -1,5 +1,4 @@
-use Rattle.std.proofs.Common.{◌≡◌, ℕ, true, List, ◌∙◌, subst, [], sym, ap, ◌++◌, append-nil}
-use Rattle.px_sem.specs.Conflicts.{is_quiet}
+use Rattle.std.proofs.Common.{ℕ, List, ◌∙◌, [], sym, ap, ◌++◌, append-nil}
 use Rattle.px_sem.specs.Stepper.{State}
 use Rattle.px_sem.specs.Text.{quiet_text}
 use Rattle.px_sem.proofs.Settles.{settled_quiet}
@@ -18,8 +17,7 @@ returns-in_err-count-clause-prints g c =
 
 pub settle-requires-clause-quiet : goal.settle-requires-clause-quiet
 settle-requires-clause-quiet g c =
-    let to : State = g.S.Stepper.state c.print_steps.new.stepper in
-    subst (λ nodes. is_quiet nodes to.world ≡ true) (sym c.in_ok-count.ensures.plan) (settled_quiet _ _ _ _ c.in_ok-count.ensures.settled)
+    settled_quiet _ _ (g.S.Stepper.state c.print_steps.new.stepper) _ c.in_ok-count.ensures.plan c.in_ok-count.ensures.settled
 
 pub returns-in_err-quiet-clause-prints : goal.returns-in_err-quiet-clause-prints
 returns-in_err-quiet-clause-prints g c =

@@ -10,8 +10,7 @@ use Rattle.px_run.proofs.top.carry_out.Goals.{in-None, in-Some-TraceStart, in-So
 
 pub returns-in-Err-clause-performs : goal.returns-in-Err-clause-performs
 returns-in-Err-clause-performs g c =
-    let before = view g.H.Host c.args.host.now in
-    early_performed g.D.Disk before before c.args.disk c.requires.unbound (command (map string_bytes c.args.words.now))
+    early_performed g.D.Disk (view g.H.Host c.args.host.now) c.args.disk c.requires.unbound (command (map string_bytes c.args.words.now))
 
 pub returns-in-Some-Run-clause-performs : goal.returns-in-Some-Run-clause-performs
 returns-in-Some-Run-clause-performs g c =

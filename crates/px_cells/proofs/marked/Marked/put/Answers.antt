@@ -47,14 +47,12 @@ returns-then-is_none-clause-contents g c =
     let pushed : c.push.new.self.items ≡ changed ++ c.args.at ∷ [] = search rules in
     let old : c.replace-old.result ≡ get_or values c.args.at c.replace-old.result = search rules in
     let new : c.replace-old.new.dest ≡ c.args.value = search rules in
-    let many : length c.args.self.now.contents.values ≡ length values = ap (λ (m : MarkedData g.row.T.Denot). length m.contents.values) (sym c.self.view_is) in
-    let within : c.args.at < length values = omega (arith, many, c.requires.within) in
     rw (pushed, new) (
     (λ i. let contents : Contents g.row.T.Denot =
     held c.self.inside.is_marked (set olds c.args.at (Some (old i))) (set values c.args.at c.args.value) (changed ++ c.args.at ∷ [])
     in contents)
     ∙ first_write c.self.inside.is_marked olds values changed c.args.at c.args.value c.replace-old.result
-    c.if-self.true c.self.invariant.noted within none
+    c.if-self.true c.self.invariant.noted none
     ∙ ap (λ (m : MarkedData g.row.T.Denot). written m.contents c.args.at c.args.value) c.self.view_is)
 
 pub returns-else-self-clause-contents : goal.returns-else-self-clause-contents

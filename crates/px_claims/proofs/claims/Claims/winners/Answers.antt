@@ -6,12 +6,12 @@ use Rattle.px_flat.specs.Flat.{plan_of}
 use Rattle.px_flat.proofs.Known.{IsSound}
 use Rattle.px_flat.proofs.Tables.{flat_sound}
 use Rattle.px_links.specs.Lists.{nth}
+use Rattle.px_links.proofs.Once.{once-nth}
 use Rattle.px_tally.specs.Tally.{is_counted}
 use Rattle.px_claims.specs.Claims.{AreAllStarting, AreOf, AreWinners}
 use Rattle.px_claims.specs.Keeping.{claims_data}
 use Rattle.px_claims.specs.Ordering.{first_at, first_wanting}
 use Rattle.px_claims.proofs.Places.{first_found}
-use Rattle.px_claims.proofs.Table.{only_list}
 use Rattle.px_claims.proofs.Variables.{IsTallyOf, length-variables}
 use Rattle.px_claims.proofs.Winning.{each, once, starting, within}
 use Rattle.px_claims.proofs.claims.Claims.winners.Goals as goal
@@ -53,8 +53,7 @@ module _ (c : After-winners) (plan : List Site) (of : AreOf plan c.args.self.now
   some = omega (arith, c.self.invariant.lists)
 
   apart : AllPairs (λ a b. a ≢ b) (nth c.self.inside.contested.lists 0)
-  apart = subst (AllPairs (λ a b. a ≢ b)) (only_list c.self.inside.contested.lists c.self.invariant.lists)
-      c.each_once.ensures.once
+  apart = once-nth c.self.inside.contested.lists 0 c.each_once.ensures.once
 
   are : AreWinners plan (claims_data c.self.inside) (firsts c)
   are = record {

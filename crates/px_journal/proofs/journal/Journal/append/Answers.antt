@@ -3,10 +3,9 @@ use Rattle.px_value.proofs.General.{option_map_some}
 use Rattle.px_journal.specs.Journal.{with_name}
 use Rattle.px_journal.specs.Layout.{next_gate}
 use Rattle.px_journal.proofs.Fronts.{fits-push}
-use Rattle.px_journal.proofs.Histories.{keeps_histories, keeps_names, map-push, next_gate_small, next_place, without_names}
-use Rattle.px_journal.proofs.Moments.{leaves_more}
+use Rattle.px_journal.proofs.Histories.{map-push, next_gate_small, next_place}
 use Rattle.px_journal.proofs.Appending.{closed_within, first_leaves, mid_within, second_leaves, then_stands}
-use Rattle.px_journal.proofs.Ready.{ready_stands}
+use Rattle.px_journal.proofs.Ready.{adds_keeps, adds_keeps_names, adds_whole}
 use Rattle.px_journal.proofs.journal.Journal.append.Goals as goal
 
 pub overflow_add-self : goal.overflow_add-self
@@ -30,26 +29,18 @@ returns-in_err-put-clause-named_or_not g c = λ text named ready told is.
     g.D.Disk.images _ _ _ _ is (ready.synced told is) _ (omega (arith, ready.gate)) _ (c.deref.ensures.value ∙ c.fill.ensures.bytes) _ c.put.ensures.puts
 
 pub returns-in_err-put-clause-whole_or_not : goal.returns-in_err-put-clause-whole_or_not
-returns-in_err-put-clause-whole_or_not g c = λ text history found told is.
-    leaves_more g.D.Disk.images _ _ _ _
-    (λ image left. without_names c.args.self.now.version text found.named (with_name c.args.self.now c.args.entry.now) history image found.entries_are left)
-    (returns-in_err-put-clause-named_or_not g c text found.named found.ready told is)
+returns-in_err-put-clause-whole_or_not g c =
+    adds_whole g.D.Disk c.args.self.now c.args.entry.now _ (returns-in_err-put-clause-named_or_not g c)
 
 pub returns-in_err-put-clause-keeps_names : goal.returns-in_err-put-clause-keeps_names
-returns-in_err-put-clause-keeps_names g c = λ told is.
-    let text = c.requires.ready.0 in
-    let found = c.requires.ready.2 in
-    keeps_names c.args.self.now.version g.D.Disk.images _ _ told text found.named (with_name c.args.self.now c.args.entry.now)
-    (g.met.D.Disk.reads_are_left c.args.self.now.disk told is) (found.ready.stands told is)
-    (returns-in_err-put-clause-named_or_not g c text found.named found.ready told is)
+returns-in_err-put-clause-keeps_names g c =
+    adds_keeps_names g.D.Disk c.args.self.now c.args.entry.now _ (returns-in_err-put-clause-named_or_not g c)
+    (g.met.D.Disk.reads_are_left c.args.self.now.disk) (c.requires.ready.0) (c.requires.ready.1) (c.requires.ready.2)
 
 pub returns-in_err-put-clause-keeps : goal.returns-in_err-put-clause-keeps
-returns-in_err-put-clause-keeps g c = λ told is.
-    let text = c.requires.ready.0 in
-    let history = c.requires.ready.1 in
-    let found = c.requires.ready.2 in
-    keeps_histories g.D.Disk.images _ _ told text history c.args.entry.now (g.met.D.Disk.reads_are_left c.args.self.now.disk told is)
-    (ready_stands g.D.Disk c.args.self.now text history found told is) (returns-in_err-put-clause-whole_or_not g c text history found told is)
+returns-in_err-put-clause-keeps g c =
+    adds_keeps g.D.Disk c.args.self.now c.args.entry.now _ (returns-in_err-put-clause-named_or_not g c)
+    (g.met.D.Disk.reads_are_left c.args.self.now.disk) (c.requires.ready.0) (c.requires.ready.1) (c.requires.ready.2)
 
 -- ---- the write of its gate fails
 
@@ -73,26 +64,18 @@ returns-in_err-put-2-clause-named_or_not g c = λ text named ready told is.
     _ _ _ ready.gate _ c.put-2.ensures.puts
 
 pub returns-in_err-put-2-clause-whole_or_not : goal.returns-in_err-put-2-clause-whole_or_not
-returns-in_err-put-2-clause-whole_or_not g c = λ text history found told is.
-    leaves_more g.D.Disk.images _ _ _ _
-    (λ image left. without_names c.args.self.now.version text found.named (with_name c.args.self.now c.args.entry.now) history image found.entries_are left)
-    (returns-in_err-put-2-clause-named_or_not g c text found.named found.ready told is)
+returns-in_err-put-2-clause-whole_or_not g c =
+    adds_whole g.D.Disk c.args.self.now c.args.entry.now _ (returns-in_err-put-2-clause-named_or_not g c)
 
 pub returns-in_err-put-2-clause-keeps_names : goal.returns-in_err-put-2-clause-keeps_names
-returns-in_err-put-2-clause-keeps_names g c = λ told is.
-    let text = c.requires.ready.0 in
-    let found = c.requires.ready.2 in
-    keeps_names c.args.self.now.version g.D.Disk.images _ _ told text found.named (with_name c.args.self.now c.args.entry.now)
-    (g.met.D.Disk.reads_are_left c.args.self.now.disk told is) (found.ready.stands told is)
-    (returns-in_err-put-2-clause-named_or_not g c text found.named found.ready told is)
+returns-in_err-put-2-clause-keeps_names g c =
+    adds_keeps_names g.D.Disk c.args.self.now c.args.entry.now _ (returns-in_err-put-2-clause-named_or_not g c)
+    (g.met.D.Disk.reads_are_left c.args.self.now.disk) (c.requires.ready.0) (c.requires.ready.1) (c.requires.ready.2)
 
 pub returns-in_err-put-2-clause-keeps : goal.returns-in_err-put-2-clause-keeps
-returns-in_err-put-2-clause-keeps g c = λ told is.
-    let text = c.requires.ready.0 in
-    let history = c.requires.ready.1 in
-    let found = c.requires.ready.2 in
-    keeps_histories g.D.Disk.images _ _ told text history c.args.entry.now (g.met.D.Disk.reads_are_left c.args.self.now.disk told is)
-    (ready_stands g.D.Disk c.args.self.now text history found told is) (returns-in_err-put-2-clause-whole_or_not g c text history found told is)
+returns-in_err-put-2-clause-keeps g c =
+    adds_keeps g.D.Disk c.args.self.now c.args.entry.now _ (returns-in_err-put-2-clause-named_or_not g c)
+    (g.met.D.Disk.reads_are_left c.args.self.now.disk) (c.requires.ready.0) (c.requires.ready.1) (c.requires.ready.2)
 
 -- ---- both are written
 
@@ -104,26 +87,18 @@ returns-clause-named_or_not g c = λ text named ready told is.
     _ _ _ ready.gate _ c.put-2.ensures.puts
 
 pub returns-clause-whole_or_not : goal.returns-clause-whole_or_not
-returns-clause-whole_or_not g c = λ text history found told is.
-    leaves_more g.D.Disk.images _ _ _ _
-    (λ image left. without_names c.args.self.now.version text found.named (with_name c.args.self.now c.args.entry.now) history image found.entries_are left)
-    (returns-clause-named_or_not g c text found.named found.ready told is)
+returns-clause-whole_or_not g c =
+    adds_whole g.D.Disk c.args.self.now c.args.entry.now _ (returns-clause-named_or_not g c)
 
 pub returns-clause-keeps_names : goal.returns-clause-keeps_names
-returns-clause-keeps_names g c = λ told is.
-    let text = c.requires.ready.0 in
-    let found = c.requires.ready.2 in
-    keeps_names c.args.self.now.version g.D.Disk.images _ _ told text found.named (with_name c.args.self.now c.args.entry.now)
-    (g.met.D.Disk.reads_are_left c.args.self.now.disk told is) (found.ready.stands told is)
-    (returns-clause-named_or_not g c text found.named found.ready told is)
+returns-clause-keeps_names g c =
+    adds_keeps_names g.D.Disk c.args.self.now c.args.entry.now _ (returns-clause-named_or_not g c)
+    (g.met.D.Disk.reads_are_left c.args.self.now.disk) (c.requires.ready.0) (c.requires.ready.1) (c.requires.ready.2)
 
 pub returns-clause-keeps : goal.returns-clause-keeps
-returns-clause-keeps g c = λ told is.
-    let text = c.requires.ready.0 in
-    let history = c.requires.ready.1 in
-    let found = c.requires.ready.2 in
-    keeps_histories g.D.Disk.images _ _ told text history c.args.entry.now (g.met.D.Disk.reads_are_left c.args.self.now.disk told is)
-    (ready_stands g.D.Disk c.args.self.now text history found told is) (returns-clause-whole_or_not g c text history found told is)
+returns-clause-keeps g c =
+    adds_keeps g.D.Disk c.args.self.now c.args.entry.now _ (returns-clause-named_or_not g c)
+    (g.met.D.Disk.reads_are_left c.args.self.now.disk) (c.requires.ready.0) (c.requires.ready.1) (c.requires.ready.2)
 
 pub overflow_add-self-2 : goal.overflow_add-self-2
 overflow_add-self-2 g c =

@@ -6,7 +6,8 @@ use Rattle.px_sem.specs.World.{World}
 use Rattle.px_micro.proofs.Quiet.{quiet}
 use Rattle.px_machine.specs.Queue.{HaveGone}
 use Rattle.px_machine.specs.Stepping.{HasChosen}
-use Rattle.px_machine.proofs.Readying.{marked_still, moves_behind, one_both, ready_gone, ready_rested, ready_still, same_is_one, same_quiet, same_state, stepped_state}
+use Rattle.px_machine.proofs.Readying.{marked_still, moves_behind, one_both, ready_gone, ready_still, same_is_one, same_quiet, same_state, stepped_state}
+use Rattle.px_machine.proofs.Waiting.{none_gone}
 use Rattle.px_machine.proofs.machine.Machine.take_step.Goals as goal
 
 -- none goes
@@ -20,9 +21,10 @@ invariant_of-self-then-is_empty-2 c =
     nil_from_length going.items (omega (arith, eqb-true going.len 0 (sym c.is_empty.ensures ∙ c.if-is_empty.true), going.ok.0)) in
     record {
       ready =
-          ready_rested middle _ c.goers.new.kept c.rest.new.queue c.goers.ensures.ready
-          (subst (HasChosen middle c.goers.new.kept) none c.in_ok-goers.ensures.chosen) c.rest.ensures refl
-          (record { cells = refl; actions = refl }) c.goers.ensures.ready.stand refl;
+          ready_gone middle _ c.goers.new.kept c.rest.new.queue [] c.goers.ensures.ready
+          (subst (HasChosen middle c.goers.new.kept) none c.in_ok-goers.ensures.chosen)
+          (none_gone c.goers.new.kept.queue c.rest.new.queue c.rest.ensures c.in_ok-goers.ensures.chosen.nobody
+          c.goers.ensures.ready.right.of_plan.lists) refl (record { cells = refl; actions = refl }) c.goers.ensures.ready.stand refl;
       marked = marked_still machine.begun machine.parts _ machine.marked
           (same_is_one machine.parts _ (record { plan = same.plan; cells = same.cells; reports = same.reports; actions = same.actions }))
           (λ i. (same.reports i).reports);
