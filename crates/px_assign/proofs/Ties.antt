@@ -63,7 +63,8 @@ written_is plan (Command name args None) = refl
 written_is plan (Command name args (Some target)) = refl
 written_is plan (Update pairs) = refl
 
-same_variable : (plan : List Site) (target other : TargetData) → IsSound plan
+-- two targets are of one variable just where they have one first cell
+pub same_variable : (plan : List Site) (target other : TargetData) → IsSound plan
     → IsDeclared plan target.owner target.name → IsDeclared plan other.owner other.name
     → nat_eq (first_of plan target) (first_of plan other) ≡ is_same_variable other target
 same_variable plan target other sound here there =

@@ -106,15 +106,10 @@ module _ (network : List Part) (above : List Above) (is : IsNetwork network abov
           let same : part ≡ next = cc in
           same
 
-      not_top : (part node : ℕ) → above_at above part ≡ aboves.Condition node → part ≢ at
-      not_top part node top same =
-          let both : aboves.Condition node ≡ aboves.Part next = sym top ∙ ap (above_at above) same ∙ up in
-          cc
-
       -- one step of the way
       shorter : (way : List ℕ) (rest : List ℕ) → IsWayUp above at rest → looks + length rest ≤ 1 + length way
           → (more : List ℕ) × (IsWayUp above next more × (looks + 1 + length more ≤ 1 + length way))
-      shorter way [] leads few = absurd (not_top at leads.0 leads.1 refl)
+      shorter way [] leads few = absurd (heights.not_top above at next at leads.0 up leads.1 refl)
       shorter way (other ∷ more) leads few =
           (more, (subst (λ part. IsWayUp above part more) (is_next other leads.0) leads.1, omega (arith, few)))
 
@@ -134,7 +129,7 @@ module _ (network : List Part) (above : List Above) (is : IsNetwork network abov
               ∙ so_far.set;
           wholes = λ part other. whole part (part_at network part) refl (so_far.wholes part other);
           changed = λ part node other top. get_or-set_other truths next part truth None other
-              ∙ so_far.changed part node (not_top part node top) top;
+              ∙ so_far.changed part node (λ same. heights.not_top above at next part node up top (sym same)) top;
           way = λ way leads. let rest = so_far.way way leads in shorter way rest.0 rest.1.0 rest.1.1;
         }
           where
@@ -164,7 +159,7 @@ module _ (network : List Part) (above : List Above) (is : IsNetwork network abov
               ];
               set = so_far.set;
               wholes = so_far.wholes;
-              changed = λ part node top. inl (so_far.changed part node (not_top part node top) top);
+              changed = λ part node top. inl (so_far.changed part node (λ same. heights.not_top above at next part node up top (sym same)) top);
               looks = λ way leads.
                   let rest = so_far.way way leads in
                   let more = shorter way rest.0 rest.1.0 rest.1.1 in

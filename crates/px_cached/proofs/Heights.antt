@@ -1,11 +1,18 @@
 -- Each part has one way up, and the climb looks at it and at each part of that way.
-use Rattle.std.proofs.Common.{◌≡◌, ℕ, zero, suc, ◌+◌, ◌<◌, ◌≤◌, List, [], ◌∷◌, length, refl, ap, subst, arith}
+use Rattle.std.proofs.Common.{◌≡◌, ◌≢◌, ℕ, zero, suc, ◌+◌, ◌<◌, ◌≤◌, List, [], ◌∷◌, length, refl, ap, sym, ◌∙◌, subst, arith}
 use Rattle.px_cached.specs.declared.part.Above.{Above}
 use Rattle.px_cached.specs.declared.part.Above.TheVariants as aboves
 use Rattle.px_cached.specs.declared.part.Part.{Part}
 use Rattle.px_cached.specs.Carrying.{IsWayUp, LooksUp}
 use Rattle.px_cached.specs.Climbs.{and_above, climb, climb_within}
 use Rattle.px_cached.specs.Network.{IsNetwork, IsUnder, above_at}
+
+-- a part that has a part above it is none that has a condition above it
+pub not_top : (above : List Above) (part next top node : ℕ) → above_at above part ≡ aboves.Part next
+    → above_at above top ≡ aboves.Condition node → part ≢ top
+not_top above part next top node up at_top same =
+    let both : aboves.Condition node ≡ aboves.Part next = sym at_top ∙ ap (above_at above) (sym same) ∙ up in
+    cc
 
 module _ (network : List Part) (above : List Above) (is : IsNetwork network above) where
   pub under : (part next : ℕ) → part < length network → above_at above part ≡ aboves.Part next

@@ -19,6 +19,7 @@ use Rattle.px_cached.specs.declared.part.Part.{Part}
 use Rattle.px_cached.specs.declared.part.Part.TheVariants as parts
 use Rattle.px_cached.specs.Laying.{IsLaid, IsReadIn, IsStretch}
 use Rattle.px_cached.specs.Network.{IsNetwork, IsOver, IsUnder, Spells, Whole, Joined, Stands, One, Two, above_at, joined, part_at}
+use Rattle.px_cached.proofs.Heights.{not_top}
 
 abbrev no_part : Part
 no_part = parts.Joined joints.And 0 0
@@ -245,12 +246,6 @@ module _ (plan : List Site) (node : ℕ) (joint : Joint) (a b : Numbered) (old o
   left_free : above_at two_above left ≡ aboves.Condition node
   left_free = right_laid.same_above left left_there ∙ left_laid.top
 
-  not_linked : (k over : ℕ) → above_at two_above k ≡ aboves.Condition node → (other : ℕ)
-      → above_at two_above other ≡ aboves.Part over → other ≢ k
-  not_linked k over free other linked same =
-      let both : aboves.Condition node ≡ aboves.Part over = sym free ∙ ap (above_at two_above) (sym same) ∙ linked in
-      cc
-
   joined_under : (k : ℕ) → k < length two + 1 → IsUnder (length two + 1) k (above_at joined_above k)
   joined_under k inside = elim (eqb_tells k left) [
     | inl same ↦ subst (λ k. IsUnder (length two + 1) k (above_at joined_above k)) (sym same.1)
@@ -272,13 +267,9 @@ module _ (plan : List Site) (node : ℕ) (joint : Joint) (a b : Numbered) (old o
   joined_named : (k other : ℕ) → length old ≤ k → k < length joined_new
       → above_at joined_above k ≡ aboves.Condition other → other ≡ node
   joined_named k other past inside top = elim (eqb_tells k left) [
-    | inl same ↦
-        let both : aboves.Condition other ≡ aboves.Part (length two) = sym top ∙ ap (above_at joined_above) same.1 ∙ at_left in
-        absurd (cc)
+    | inl same ↦ absurd (not_top joined_above left (length two) k other at_left top (sym same.1))
     | inr not_left ↦ elim (eqb_tells k right) [
-      | inl same ↦
-          let both : aboves.Condition other ≡ aboves.Part (length two) = sym top ∙ ap (above_at joined_above) same.1 ∙ at_right in
-          absurd (cc)
+      | inl same ↦ absurd (not_top joined_above right (length two) k other at_right top (sym same.1))
       | inr not_right ↦ elim (cases_lt k (length two)) [
         | inl below ↦ elim (cases_lt k (length one)) [
           | inl first ↦ left_laid.named k other past first
@@ -315,8 +306,8 @@ module _ (plan : List Site) (node : ℕ) (joint : Joint) (a b : Numbered) (old o
         (length-set (set pushed_above left (aboves.Part (length two))) right (aboves.Part (length two))
         ∙ length-set pushed_above left (aboves.Part (length two)) ∙ sized)
         (omega (arith, few, length_push two joined_part))
-        (λ k over inside linked. at_old k inside (not_linked left over left_free k linked)
-        (not_linked right over right_laid.top k linked) ∙ linked)
+        (λ k over inside linked. at_old k inside (not_top two_above k over left node linked left_free)
+        (not_top two_above k over right node linked right_laid.top) ∙ linked)
         (omega (arith, left_there, right_laid.longer), (right_there, (at_left, at_right)))
         joined_under;
     longer = omega (arith, left_laid.longer, right_laid.longer, length_push two joined_part);

@@ -1,5 +1,5 @@
 -- Nodes that stand among those of a whole plan.
-use Rattle.std.proofs.Common.{◌≡◌, ℕ, Bool, true, List, ◌∷◌, ◌++◌, sym, ap, ◌∙◌, subst}
+use Rattle.std.proofs.Common.{◌≡◌, ℕ, Bool, true, List, [], ◌∷◌, ◌++◌, sym, ap, ◌∙◌, subst}
 use Rattle.std.specs.Prelude.{◌&&◌}
 use Rattle.std.specs.List.{list_any}
 use Rattle.std.proofs.lemmas.Bool.{and_from, and_parts, or_left, or_right}
@@ -27,9 +27,6 @@ back_within front back whole within = record {
   any = λ holds passes. within.any holds (list_any-append holds front back ∙ or_right (list_any holds front) _ passes);
 }
 
-rest_within : (first : Site) (rest whole : List Site) → IsWithin (first ∷ rest) whole → IsWithin rest whole
-rest_within first rest whole within = record { any = λ holds passes. within.any holds (or_right (holds first) _ passes) }
-
 -- ---- of a node, its children and what stands beside it
 
 module _ (above : List (List ℕ)) (head : Head) (children rest : Tree) (whole : List Site)
@@ -48,12 +45,14 @@ module _ (above : List (List ℕ)) (head : Head) (children rest : Tree) (whole :
 
   pub children_within : IsWithin (sites_under (path_under above head.name ∷ above) children) whole
   children_within =
-      front_within _ (sites_under above rest) whole (rest_within (site_under above head) _ whole within)
+      let inside = sites_under (path_under above head.name ∷ above) children in
+      front_within inside (sites_under above rest) whole
+      (back_within (site_under above head ∷ []) (inside ++ sites_under above rest) whole within)
 
   pub others_within : IsWithin (sites_under above rest) whole
   others_within =
-      back_within (sites_under (path_under above head.name ∷ above) children) _ whole
-      (rest_within (site_under above head) _ whole within)
+      back_within (site_under above head ∷ sites_under (path_under above head.name ∷ above) children)
+      (sites_under above rest) whole within
 
 -- a node is within without what stands beside it
 pub alone_within : (above : List (List ℕ)) (head : Head) (children rest : Tree) (whole : List Site)

@@ -1,9 +1,9 @@
 -- What the nodes that go write, in cells and as the semantics has it.
 use Rattle.std.proofs.Common.{◌≡◌, ◌≢◌, ℕ, ◌+◌, ◌<◌, ◌≤◌, Bool, true, false, nat_lt, ◌&&◌, List, [], ◌∷◌, length, get_or, set, take, drop, fold, map, nat_eq, refl, ap, sym, ◌∙◌, subst, arith, inl, inr, Option, Some, None, is_some, All, if◌then◌else◌, length-drop}
 use Rattle.std.specs.List.{filter_map, cons_option, find, zip}
-use Rattle.std.specs.Cmp.Lexicographic.{same_text}
+use Rattle.std.specs.Cmp.{nat_eq_equiv}
 use Rattle.std.specs.Option.{ForSome, option_and_then, option_map}
-use Rattle.std.proofs.lemmas.Bool.{and_from, and_parts, eqb-false, ltb-true, false_from_ne_true}
+use Rattle.std.proofs.lemmas.Bool.{and_parts, eqb-false, ltb-true}
 use Rattle.std.proofs.lemmas.Bool.Decides.{eqb_tells}
 use Rattle.std.proofs.lemmas.Grind.{common_steps}
 use Rattle.std.proofs.lemmas.List.{get_or-drop, get_or-set_same, get_or-set_other, get_or-take, length-set, length-take-le}
@@ -13,7 +13,6 @@ use Rattle.px_value.specs.declared.value.Value.{Value}
 use Rattle.px_value.specs.declared.value.Value.TheVariants as values
 use Rattle.px_core.specs.Expr.{Term}
 use Rattle.px_core.specs.Plan.{Site, BodyData, Nothing, Assign, Command, Update, TargetData, VariableData, is_same}
-use Rattle.px_core.proofs.Paths.{same-self}
 use Rattle.px_sem.specs.declared.guards.Arrival.{Arrival}
 use Rattle.px_sem.specs.Conflicts.{target_of, transition}
 use Rattle.px_sem.specs.Effects as sem
@@ -33,6 +32,7 @@ use Rattle.px_flat.proofs.Known.{IsSound}
 use Rattle.px_flat.proofs.Tables.{flat_sound}
 use Rattle.px_flat.proofs.Variables.{IsDeclared, place_at, target_declared, one_cell, cells_within}
 use Rattle.px_eval.proofs.Elements.{index_is}
+use Rattle.px_assign.proofs.Ties.{same_variable}
 use Rattle.px_command.proofs.Returns.{flat_differs}
 use Rattle.px_micro.specs.declared.effects.CellWrite.{CellWrite}
 use Rattle.px_parts.specs.declared.parts.Parts.{Parts}
@@ -41,10 +41,10 @@ use Rattle.px_micro.specs.Going.{AreAllGoing}
 use Rattle.px_micro.specs.Moving.{put_write}
 use Rattle.px_parts.specs.Parts.{AreStanding, plan_in, world_in, record_of}
 use Rattle.px_micro.specs.Turns.{in_cells, effects_in, first_writes, written_in}
-use Rattle.px_micro.proofs.Blocks.{block_is}
+use Rattle.px_micro.proofs.Blocks.{block_is, set_length}
 use Rattle.px_micro.proofs.Firsts.{writes_to, firsts_all, firsts_apart, firsts_find}
 use Rattle.px_micro.proofs.Goers.{gone}
-use Rattle.px_micro.proofs.Hits.{fold_keeps, hit_by, one_hit}
+use Rattle.px_micro.proofs.Hits.{hit_by, one_hit}
 use Rattle.px_micro.proofs.Initial.{right_cells}
 use Rattle.px_micro.proofs.Meaning.{place_inside}
 use Rattle.px_parts.proofs.Found.{record_is}
@@ -189,29 +189,14 @@ same_slot : (plan : List Site) (owner name : List ℕ) (write : Write) → IsSou
     → IsInside plan write
     → nat_eq (place_of plan write.owner write.name).first declared.has.place.first
     ≡ (is_same write.owner owner && is_same write.name name)
-same_slot plan owner name write sound declared inside = elim (eqb_tells variable first) [
-  | inl same ↦
-      let both = one_cell plan write.owner write.name owner name 0 0 inside.declared declared
-      (omega (arith, inside.inside)) (omega (arith, declared.has.some_cells))
-      (omega (arith, same.1, ap (λ (place : Place). place.first) (place_at plan write.owner write.name sound inside.declared))) in
-      same.0
-      ∙ sym (and_from (is_same write.owner owner) (is_same write.name name)
-      (ap (is_same write.owner) (sym both.0) ∙ same-self write.owner)
-      (ap (is_same write.name) (sym both.1) ∙ same-self write.name))
-  | inr apart ↦
-      apart.0
-      ∙ sym (false_from_ne_true (is_same write.owner owner && is_same write.name name) (λ same.
-      let both = and_parts (is_same write.owner owner) (is_same write.name name) same in
-      apart.1 (ap (λ (place : Place). place.first)
-      ((λ i. place_of plan (same_text write.owner owner (sym both.0) i) (same_text write.name name (sym both.1) i))
-      ∙ place_at plan owner name sound declared))))
-]
+same_slot plan owner name write sound declared inside =
+    nat_eq_equiv.symm variable declared.has.place.first
+    ∙ ap (λ (place : Place). nat_eq place.first variable) (sym (place_at plan owner name sound declared))
+    ∙ same_variable plan (record { owner = owner; name = name; index = None })
+    (record { owner = write.owner; name = write.name; index = None }) sound declared inside.declared
   where
     variable : ℕ
     variable = (place_of plan write.owner write.name).first
-
-    first : ℕ
-    first = declared.has.place.first
 
 -- the first write in cells is the one that the semantics finds
 found_alike : (parts : Parts) (going : List Going) (owner name : List ℕ) (declared : IsDeclared (plan_in parts) owner name)
@@ -362,8 +347,7 @@ slot_after parts going cells owner name found declared stand within all is = by 
     of = firsts_all (IsWriteOf plan) writes (writes_inside parts going stand within)
 
     long : length after ≡ all_cells plan
-    long = fold_keeps put_write (λ cells. length cells ≡ all_cells plan) (IsWriteOf plan)
-        (λ cells write of long. length-set cells write.cell write.value ∙ long) (first_writes writes) cells of all
+    long = set_length (λ (write : CellWrite). write.cell) (λ (write : CellWrite). write.value) (first_writes writes) cells ∙ all
 
     room : first + size ≤ all_cells plan
     room = omega (arith, declared.has.within, cells_within plan declared.node declared.within)
