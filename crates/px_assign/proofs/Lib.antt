@@ -1,2 +1,10 @@
-pub mod Firsts
+pub mod Contested
+pub mod First
+pub mod Places
+pub mod Sorting
+pub mod Staying
+pub mod Table
 pub mod Ties
+pub mod Variables
+pub mod Winning
+pub mod Writers

@@ -23,7 +23,7 @@ use Rattle.px_flat.specs.Row.{site_in}
 use Rattle.px_flat.proofs.Known.{IsSound}
 use Rattle.px_flat.proofs.Variables.{IsDeclared, target_declared, one_variable}
 use Rattle.px_assign.specs.Conflicts.{written, variable_of, of_variable, writes, goes_before, is_kept_from, is_loser, is_loser_in, is_writer, AreWriters}
-use Rattle.px_assign.proofs.Firsts.{not_itself, found_among}
+use Rattle.px_assign.proofs.Staying.{not_itself, found_among}
 
 -- ---- tests
 

@@ -1,2 +1,5 @@
-pub mod Claims
 pub mod Conflicts
+pub mod Contending
+pub mod Ordering
+pub mod Claims
+pub mod Keeping

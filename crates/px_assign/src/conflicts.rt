@@ -5,7 +5,7 @@ ghost use Rattle.px_sem.specs.World.{World};
 ghost use Rattle.px_flat.specs.Flat.{plan_of};
 ghost use Rattle.px_assign.specs.Conflicts.{is_loser, is_loser_in, AreWriters};
 
-use crate::claims::{first_writers, held, stays};
+use crate::contenders::{first_writers, held, stays};
 use px_flat::Flat;
 use px_value::NoMemory;
 use std::alloc::Global;

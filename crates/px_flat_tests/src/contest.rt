@@ -4,7 +4,7 @@ ghost use Rattle.px_flat.specs.Flat.{plan_of};
 
 use crate::tables::tables;
 use anyhow::bail;
-use px_claims::Claims;
+use px_assign::Claims;
 use px_flat::Flat;
 use px_value::Path;
 use std::alloc::Global;

@@ -9,8 +9,8 @@ use Rattle.px_core.specs.Plan.{Site}
 use Rattle.px_sem.specs.Guards.{is_active, is_at_rest}
 use Rattle.px_flat.specs.Row.{parent_number}
 use Rattle.px_tally.specs.Tally.{is_counted, marked, total}
-use Rattle.px_claims.specs.Claims.{AreOf, with_holding}
-use Rattle.px_claims.proofs.Contested.{nobody_as_before}
+use Rattle.px_assign.specs.Claims.{AreOf, with_holding}
+use Rattle.px_assign.proofs.Contested.{nobody_as_before}
 use Rattle.px_cached.specs.Cached.{kept_truth}
 use Rattle.px_cached.specs.Cached as cached
 use Rattle.px_cached.proofs.OneList.{not_both, was_absent}

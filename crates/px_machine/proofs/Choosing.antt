@@ -23,8 +23,8 @@ use Rattle.px_sem.specs.World.{World, state_at}
 use Rattle.px_flat.specs.Row.{site_in}
 use Rattle.px_assign.specs.Conflicts.{is_loser_in, is_writer, AreWriters}
 use Rattle.px_assign.proofs.Ties.{first_of, written_is}
-use Rattle.px_claims.specs.Claims.{AreAllStarting, AreWinners, holding_in, starts_in, wanting_in}
-use Rattle.px_claims.proofs.Winning.{among_numbers, flag_is}
+use Rattle.px_assign.specs.Claims.{AreAllStarting, AreWinners, holding_in, starts_in, wanting_in}
+use Rattle.px_assign.proofs.Winning.{among_numbers, flag_is}
 use Rattle.px_parts.specs.declared.parts.Parts.{Parts}
 use Rattle.px_parts.specs.Parts.{AreStanding, plan_in, world_in}
 use Rattle.px_micro.specs.declared.sight.Going.{Going}

@@ -14,7 +14,7 @@ use Rattle.px_sem.specs.World.{World}
 use Rattle.px_flat.specs.Row.{parent_number, site_in}
 use Rattle.px_links.specs.Links.{is_absent}
 use Rattle.px_links.specs.Lists.{has, nth}
-use Rattle.px_claims.specs.Claims.{ClaimsData}
+use Rattle.px_assign.specs.Claims.{ClaimsData}
 use Rattle.px_cached.proofs.OneList.{not_both}
 use Rattle.px_parts.specs.declared.parts.Parts.{Parts}
 use Rattle.px_parts.specs.Parts.{AreStanding, plan_in, world_in}

@@ -15,7 +15,7 @@ use Rattle.px_flat.specs.Numbered.{Numbered, held, reported_of}
 use Rattle.px_flat.specs.Parts.{action_in, failure_in, outcome_in, state_in}
 use Rattle.px_flat.specs.Sources.{Cells, IsSame, Reports, Source, sources_in}
 use Rattle.px_links.specs.Links.{is_absent}
-use Rattle.px_claims.specs.Claims.{AreOf}
+use Rattle.px_assign.specs.Claims.{AreOf}
 use Rattle.px_cached.specs.Cached.{CachedData, HasTouchedCell, IsTouchedAt, SeenIn, TouchedIn, TellsChanged, is_touched, kept_truth, present_in}
 use Rattle.px_cached.specs.Cached as cached
 use Rattle.px_cached.specs.Conditions.{condition_in, number_of, source_number}

@@ -15,7 +15,7 @@ use Rattle.px_flat.proofs.Tables.{flat_sound}
 use Rattle.px_told.specs.declared.place.Place.{Place}
 use Rattle.px_told.specs.Preorder.{IsPreorder, end_of, is_below, is_under, parent_of, place_at}
 use Rattle.px_assign.specs.Conflicts.{variable_of}
-use Rattle.px_claims.specs.Claims.{AreOf, ClaimsData}
+use Rattle.px_assign.specs.Claims.{AreOf, ClaimsData}
 use Rattle.px_micro.proofs.Ancestors.{placed}
 use Rattle.px_micro.proofs.Chains.{chain_within}
 use Rattle.px_micro.proofs.Families.{end_within, same_node}

@@ -5,7 +5,7 @@ use denote.Param.SendFields.{as_row_send, declared_send}
 use Rattle.px_cached.proofs.Sending.{cached_send}
 use Rattle.px_tally.proofs.tally.Tally.TheSendSync as tallies
 use Rattle.px_told.proofs.told.Told.TheSendSync as tolds
-use Rattle.px_claims.proofs.claims.Claims.TheSendSync as claims
+use Rattle.px_assign.proofs.claims.Claims.TheSendSync as claims
 use Rattle.px_links.proofs.links.Links.TheSendSync as links
 use Rattle.px_machine.specs.contracts.kept.Kept as kept
 

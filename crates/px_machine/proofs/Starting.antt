@@ -10,7 +10,7 @@ use Rattle.px_told.specs.declared.place.Place.{Place}
 use Rattle.px_told.specs.Asking.{either, nothing}
 use Rattle.px_told.specs.Preorder.{parent_of}
 use Rattle.px_told.specs.Told.{AreTold, asked_under, silent}
-use Rattle.px_claims.specs.Claims.{AreNobodys}
+use Rattle.px_assign.specs.Claims.{AreNobodys}
 use Rattle.px_cached.proofs.OneList.{not_both}
 use Rattle.px_parts.specs.declared.parts.Parts.{Parts}
 use Rattle.px_parts.specs.Parts.{plan_in}

@@ -8,7 +8,7 @@ use Rattle.px_flat.specs.Row.{parent_number}
 use Rattle.px_links.specs.Links.{is_absent}
 use Rattle.px_tally.specs.Tally.{marked, CountsOthersAsBefore}
 use Rattle.px_told.specs.declared.asks.Asks.{Asks}
-use Rattle.px_claims.specs.Claims.{with_holding}
+use Rattle.px_assign.specs.Claims.{with_holding}
 use Rattle.px_cached.specs.Cached.{kept_truth}
 use Rattle.px_parts.specs.declared.parts.Parts.{Parts}
 use Rattle.px_micro.specs.Above.{asks_in}

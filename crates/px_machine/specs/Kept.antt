@@ -15,7 +15,7 @@ use Rattle.px_flat.specs.Row.{site_in, parent_number, after_last}
 use Rattle.px_tally.specs.Tally.{is_nobody}
 use Rattle.px_told.specs.declared.place.Place.{Place}
 use Rattle.px_told.specs.Told.{told_at}
-use Rattle.px_claims.specs.Claims.{AreOf}
+use Rattle.px_assign.specs.Claims.{AreOf}
 use Rattle.px_cached.specs.Cached as cached
 use Rattle.px_cached.specs.Cached.{CachedData, kept_truth}
 use Rattle.px_cached.specs.Conditions.{all_sources}

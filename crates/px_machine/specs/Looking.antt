@@ -1,7 +1,7 @@
 -- What a look at one node changes.
 use Rattle.std.specs.Prelude.{◌≡◌, ℕ, Bool, List, [], ◌++◌}
 use Rattle.std.specs.List.{cons_option}
-use Rattle.px_claims.specs.Claims.{with_wanting}
+use Rattle.px_assign.specs.Claims.{with_wanting}
 use Rattle.px_parts.specs.declared.parts.Parts.{Parts}
 use Rattle.px_micro.specs.declared.sight.Going.{Going}
 use Rattle.px_micro.specs.Going.{with_node}

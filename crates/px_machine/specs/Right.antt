@@ -1,6 +1,6 @@
 -- RIGHT: all that is kept is right of what was last seen. Of the present it says nothing, so what changes the world alone
 -- owes it nothing. (That kept conditions are right in what was seen is what px_cached keeps, and that no wanted variable is
--- free unless it is in play is what px_claims keeps.)
+-- free unless it is in play is what px_assign keeps.)
 use Rattle.px_parts.specs.declared.parts.Parts.{Parts}
 use Rattle.px_parts.specs.Parts.{plan_in}
 use Rattle.px_parts.specs.Seen.{AreAllSeen}

@@ -6,7 +6,7 @@ use Rattle.std.proofs.lemmas.List.Folds.{list_any_at}
 use Rattle.px_flat.specs.Flat.{plan_of}
 use Rattle.px_flat.proofs.Tables.{flat_sound}
 use Rattle.px_assign.specs.Conflicts.{is_loser}
-use Rattle.px_assign.proofs.Firsts.{stays_as_loser}
+use Rattle.px_assign.proofs.Staying.{stays_as_loser}
 use Rattle.px_assign.proofs.Ties.{losers_alike}
 use Rattle.px_assign.proofs.conflicts.losers.Goals as goal
 use Rattle.px_assign.proofs.conflicts.losers.Goals.{then-stays+in_ok-push, else-stays}

@@ -1,3 +1,0 @@
-pub mod Claims
-pub mod Keeping
-pub mod Ordering
