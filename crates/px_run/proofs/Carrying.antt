@@ -10,7 +10,7 @@ use Rattle.px_words.specs.Asked.{asked}
 use Rattle.px_words.specs.declared.command.Command.{Command as Asked}
 use Rattle.px_words.specs.Words.{Command, TraceStart, DryRun, Check, Format, Run, Resume, Trace, Names, Soak, journal_operand}
 use Rattle.px_run.specs.Course.{Course, Untouched, Due, EndsIn, AfterFile}
-use Rattle.px_run.specs.Ending.{usage}
+use Rattle.px_ending.specs.Ending.{usage}
 use Rattle.px_run.specs.Finishing.{Carries}
 use Rattle.px_run.specs.Format.{FormatCalls}
 use Rattle.px_run.specs.Journaled.{AfterJournal, NamesCalls}
@@ -22,10 +22,10 @@ use Rattle.px_run.specs.Top.{Performed}
 use Rattle.px_run.specs.Trace.{TraceCarries}
 use Rattle.px_run.specs.Headline.{TraceStartCalls, DryRunCalls, CheckCalls, CommandCallsFor, IsBoundFor}
 use Rattle.px_run.specs.Stops.{Performs}
-use Rattle.px_run.specs.declared.ending.End.{End}
-use Rattle.px_run.specs.declared.ending.Refusal.TheVariants as refusals
-use Rattle.px_run.specs.declared.ending.Stop.{Stop}
-use Rattle.px_run.specs.declared.ending.Stop.TheVariants as stops
+use Rattle.px_ending.specs.declared.status.End.{End}
+use Rattle.px_ending.specs.declared.refusal.Refusal.TheVariants as refusals
+use Rattle.px_run.specs.declared.stop.Stop.{Stop}
+use Rattle.px_run.specs.declared.stop.Stop.TheVariants as stops
 use Rattle.px_run.specs.declared.finishing.Carried.{Carried}
 use Rattle.px_run.proofs.Performing.{performs_more}
 

@@ -21,7 +21,7 @@ use Rattle.px_session.specs.Session.{Session, IsNothing, StandsFor}
 use Rattle.px_words.specs.Words.{Command, TraceStart, DryRun, Check, Format, Run, Resume, Trace, Names, Soak, plan_operand, script_operand, journal_operand, takes_up, runs_plan, command}
 use Rattle.px_run.specs.Causes.{HasPlan, HasScript, HasJournal, TakesUpJournal, IsSoak, AsksForRun, ReadsScript, Starts, OperandIsRefused, FailsToRead, StallsBehind, StallsOver, TakesUp, Cause}
 use Rattle.px_run.specs.Course.{Course, Untouched, TakenUp, GoneOn, Due, EndsIn, AfterFile}
-use Rattle.px_run.specs.Ending.{Ending, of_start, start_ending, nodes_ending, session_ending, stalled_ending, runaway_at_start}
+use Rattle.px_ending.specs.Ending.{Ending, of_start, start_ending, nodes_ending, session_ending, stalled_ending, runaway_at_start}
 use Rattle.px_run.specs.Reading.{FileKind, Seen, Content, Longer, Unreadable, Shows, Refuses, with_text, Reads}
 use Rattle.px_run.specs.Format.{LaysOut, layout_ending}
 use Rattle.px_run.specs.Headline.{DryRunOf, TraceStartCalls, DryRunCalls, CommandCallsFor, Delivers, Headline}

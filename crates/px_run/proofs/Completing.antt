@@ -25,7 +25,7 @@ use Rattle.px_words.specs.Limited.{event_limit}
 use Rattle.px_words.specs.Words.{Command, TraceStart, DryRun, Check, Format, Run, Resume, Trace, Names, Soak, plan_operand, script_operand, journal_operand, takes_up, runs_plan, command}
 use Rattle.px_run.specs.Causes.{HasPlan, HasScript, HasJournal, TakesUpJournal, IsSoak, AsksForRun, FailsToRead, status_behind, IsSound, IsComplete, RefusesFiles}
 use Rattle.px_run.specs.Course.{Course, Untouched, TakenUp, Due, EndsIn, AfterFile}
-use Rattle.px_run.specs.Ending.{Ending, of_start, start_ending, nodes_ending, session_ending, runaway_at_start}
+use Rattle.px_ending.specs.Ending.{Ending, of_start, start_ending, nodes_ending, session_ending, runaway_at_start}
 use Rattle.px_run.specs.Reading.{FileKind, with_text, Holds, HoldsNone}
 use Rattle.px_run.specs.Format.{LaysOut, layout_ending}
 use Rattle.px_run.specs.Headline.{CommandCallsFor, Headline}

@@ -10,19 +10,20 @@ use Rattle.px_output.specs.View.{View, EmitsPart, OnlyPrints, KeepsFiles}
 use Rattle.px_output.proofs.Printed.{faulted_later, emits_nothing, emitted_whole, emitted_part, piece_printed}
 use Rattle.px_script.specs.declared.script.Script.{Script}
 use Rattle.px_words.specs.Words.{Command, TraceStart, DryRun, Check, Format, Run, Resume, Trace, Names, Soak, command}
-use Rattle.px_run.specs.declared.ending.End.{End}
-use Rattle.px_run.specs.declared.ending.Refusal.{Refusal}
-use Rattle.px_run.specs.declared.ending.Stop.{Stop}
-use Rattle.px_run.specs.declared.ending.Stop.TheVariants as stops
+use Rattle.px_ending.specs.declared.status.End.{End}
+use Rattle.px_ending.specs.declared.refusal.Refusal.{Refusal}
+use Rattle.px_run.specs.declared.stop.Stop.{Stop}
+use Rattle.px_run.specs.declared.stop.Stop.TheVariants as stops
 use Rattle.px_run.specs.declared.finishing.Carried.{Carried}
 use Rattle.px_run.specs.Course.{Course, Untouched, TakenUp, Due, AfterFile}
-use Rattle.px_run.specs.Ending.{Ending}
+use Rattle.px_ending.specs.Ending.{Ending}
 use Rattle.px_run.specs.Reading.{FileKind, with_text}
 use Rattle.px_run.specs.Top.{Performed}
 use Rattle.px_run.specs.Headline.{CommandCallsFor, Delivers, Headline}
 use Rattle.px_run.specs.Journaled.{AfterJournal}
 use Rattle.px_run.specs.Kinds.{plan_file, script_file}
-use Rattle.px_run.specs.Stops.{Performs, number_of, status_of, ending_of}
+use Rattle.px_run.specs.Stops.{Performs}
+use Rattle.px_ending.specs.Statuses.{number_of, status_of, ending_of}
 use Rattle.px_run.proofs.SeenFiles.{after_later, reads_kept}
 
 -- ---- what is called for stays so while a refusal is printed

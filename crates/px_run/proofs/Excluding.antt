@@ -18,7 +18,7 @@ use Rattle.px_ports.specs.declared.disk.Disk
 use Rattle.px_sem.specs.Log.{events_of}
 use Rattle.px_sem.specs.Run.{started, settled_world, run}
 use Rattle.px_sem.proofs.Logs.{run_on_front}
-use Rattle.px_run.specs.Ending.{Ending, no_journal, journal_damaged, journal_plan, journal_runaway}
+use Rattle.px_ending.specs.Ending.{Ending, no_journal, journal_damaged, journal_plan, journal_runaway}
 use Rattle.px_session.specs.Session.{StandsFor}
 use Rattle.px_run.specs.Journaled.{JournalRefuses, HasNoJournal, CannotRun}
 

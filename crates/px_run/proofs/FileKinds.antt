@@ -9,7 +9,7 @@ use Rattle.px_script.specs.Script.{Threads, Fault, script}
 use Rattle.px_event.specs.declared.names.ThreadName.{ThreadName}
 use Rattle.px_script.specs.declared.script.Script.{Script}
 use Rattle.px_script.specs.declared.todo.Todo.{Todo}
-use Rattle.px_run.specs.Ending.{Ending}
+use Rattle.px_ending.specs.Ending.{Ending}
 use Rattle.px_run.specs.Course.{Course, Due, AfterFile}
 use Rattle.px_run.specs.Reading.{FileKind, Seen, Content, Longer, Unreadable, Shows, Spells, Refuses, with_text, Holds, HoldsNone}
 use Rattle.px_run.specs.Kinds.{plan_file, script_file}

@@ -30,16 +30,17 @@ use Rattle.px_session.specs.Posting.{Posts, WasDue}
 use Rattle.px_session.specs.Session.{Session, IsFront, LeavesFronts}
 use Rattle.px_session.specs.declared.posting.Posted.{Posted}
 use Rattle.px_run.specs.Course.{Due}
-use Rattle.px_run.specs.Ending.{Ending, stalled_ending, disk_fault}
+use Rattle.px_ending.specs.Ending.{Ending, stalled_ending, disk_fault}
 use Rattle.px_run.specs.Finishing.{Finishes}
 use Rattle.px_run.specs.Journaled.{DueBehind}
-use Rattle.px_run.specs.Stops.{Performs, number_of, status_of, stop_of}
+use Rattle.px_run.specs.Stops.{Performs, stop_of}
+use Rattle.px_ending.specs.Statuses.{number_of, status_of}
 use Rattle.px_run.specs.declared.finishing.Telling.{Telling}
 use Rattle.px_run.specs.Telling.{told_ending}
-use Rattle.px_run.specs.declared.ending.End.{End}
-use Rattle.px_run.specs.declared.ending.Refusal.TheVariants as refusals
-use Rattle.px_run.specs.declared.ending.Stop.{Stop}
-use Rattle.px_run.specs.declared.ending.Stop.TheVariants as stops
+use Rattle.px_ending.specs.declared.status.End.{End}
+use Rattle.px_ending.specs.declared.refusal.Refusal.TheVariants as refusals
+use Rattle.px_run.specs.declared.stop.Stop.{Stop}
+use Rattle.px_run.specs.declared.stop.Stop.TheVariants as stops
 use Rattle.px_run.proofs.Performing.{printed, broken_off}
 use Rattle.px_run.proofs.SeenFiles.{WhereDue}
 

@@ -29,7 +29,7 @@ use Rattle.px_session.specs.Session.{Session, unsure, longest_of, IsFront, Leave
 use Rattle.px_words.specs.Words.{Command, TraceStart, DryRun, Check, Format, Run, Resume, Trace, Names, Soak, script_operand, command}
 use Rattle.px_run.proofs.Excluding.{stands_something}
 use Rattle.px_run.specs.Course.{Course, Untouched, TakenUp, Due, EndsIn, AfterFile, Leaves}
-use Rattle.px_run.specs.Ending.{Ending}
+use Rattle.px_ending.specs.Ending.{Ending}
 use Rattle.px_run.specs.Reading.{FileKind, Reads, with_text}
 use Rattle.px_run.specs.Headline.{CommandCallsFor, Headline}
 use Rattle.px_run.specs.Journaled.{IsSession, NewCalls, RunCalls, RunCallsBy, AfterJournal, ResumeCalls, TraceCalls, NamesCalls}

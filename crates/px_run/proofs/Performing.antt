@@ -8,12 +8,13 @@ use Rattle.px_output.specs.View.{View, OnlyPrints, OnlyReads}
 use Rattle.px_output.specs.declared.printer.PrintFault.{PrintFault}
 use Rattle.px_output.specs.declared.printer.PrintFault.TheVariants.{SinkFailed, NoMemory}
 use Rattle.px_run.specs.Course.{Course, Due, AfterFile}
-use Rattle.px_run.specs.Ending.{Ending, runaway_at_start}
+use Rattle.px_ending.specs.Ending.{Ending, runaway_at_start}
 use Rattle.px_run.specs.Reading.{FileKind, Reads}
-use Rattle.px_run.specs.Stops.{number_of, status_of, stop_of, stop_of_start, StopsReading, Performs, ending_of}
-use Rattle.px_run.specs.declared.ending.End.{End}
-use Rattle.px_run.specs.declared.ending.Stop.{Stop}
-use Rattle.px_run.specs.declared.ending.Stop.TheVariants as stops
+use Rattle.px_run.specs.Stops.{stop_of, stop_of_start, StopsReading, Performs}
+use Rattle.px_ending.specs.Statuses.{number_of, status_of, ending_of}
+use Rattle.px_ending.specs.declared.status.End.{End}
+use Rattle.px_run.specs.declared.stop.Stop.{Stop}
+use Rattle.px_run.specs.declared.stop.Stop.TheVariants as stops
 use Rattle.px_run.proofs.SeenFiles.{shows_later, reads_at_once, reads_kept}
 
 -- ---- what is performed, seen from further off

@@ -14,16 +14,17 @@ use Rattle.px_sem.specs.declared.settling.StepFault.TheVariants as steps
 use Rattle.px_sem.specs.declared.stepper.Stepper
 use Rattle.px_session.proofs.Sessions.{untouched_at_once}
 use Rattle.px_run.specs.Course.{Course, Untouched, Due, AfterFile}
-use Rattle.px_run.specs.Ending.{Ending, runaway_at_start}
+use Rattle.px_ending.specs.Ending.{Ending, runaway_at_start}
 use Rattle.px_run.specs.Reading.{FileKind, Seen, Content, Longer, Unreadable, Refuses, with_text, Reads}
 use Rattle.px_run.specs.Run.{IsPrepared, IsNotPrepared, RunCarries, PreparedCarries}
 use Rattle.px_run.specs.Finishing.{Carries}
 use Rattle.px_run.specs.Journaled.{NewCalls, RunCallsBy, RunCalls}
 use Rattle.px_run.specs.Kinds.{plan_file, script_file}
-use Rattle.px_run.specs.Stops.{Performs, StopsReading, stop_of_start, ending_of}
-use Rattle.px_run.specs.declared.ending.End.{End}
-use Rattle.px_run.specs.declared.ending.Stop.{Stop}
-use Rattle.px_run.specs.declared.ending.Stop.TheVariants as stops
+use Rattle.px_run.specs.Stops.{Performs, StopsReading, stop_of_start}
+use Rattle.px_ending.specs.Statuses.{ending_of}
+use Rattle.px_ending.specs.declared.status.End.{End}
+use Rattle.px_run.specs.declared.stop.Stop.{Stop}
+use Rattle.px_run.specs.declared.stop.Stop.TheVariants as stops
 use Rattle.px_run.specs.declared.finishing.Carried.{Carried}
 use Rattle.px_run.specs.declared.finishing.Telling.TheVariants as tellings
 use Rattle.px_run.specs.declared.run.Prepared.{Prepared}

@@ -12,14 +12,14 @@ use Rattle.px_ports.specs.declared.disk.Disk
 use Rattle.px_session.specs.Session.{StandsFor}
 use Rattle.px_session.specs.Reading.{IsRead, IsReadWhy, IsNotRead}
 use Rattle.px_run.specs.Course.{Course, Synced, Unread, TakenUp}
-use Rattle.px_run.specs.Ending.{no_journal, journal_damaged, names_ending}
+use Rattle.px_ending.specs.Ending.{no_journal, journal_damaged, names_ending}
 use Rattle.px_run.specs.Finishing.{ComesBack}
 use Rattle.px_run.specs.Journaled.{HasNoJournal, NamesCalls}
 use Rattle.px_run.specs.Names.{NamesCarries}
 use Rattle.px_run.specs.Stops.{Performs, stop_of, stop_of_recover}
-use Rattle.px_run.specs.declared.ending.End.{End}
-use Rattle.px_run.specs.declared.ending.End.TheVariants as ends
-use Rattle.px_run.specs.declared.ending.Stop.{Stop}
+use Rattle.px_ending.specs.declared.status.End.{End}
+use Rattle.px_ending.specs.declared.status.End.TheVariants as ends
+use Rattle.px_run.specs.declared.stop.Stop.{Stop}
 use Rattle.px_run.proofs.Performing.{printed, broken_off}
 use Rattle.px_run.proofs.Resumed.{carries_taken_up}
 

@@ -25,7 +25,7 @@ use Rattle.px_session.specs.declared.fault.ReopenWhy.{ReopenWhy}
 use Rattle.px_session.specs.declared.fault.ReopenWhy.TheVariants as reopening
 use Rattle.px_session.specs.declared.reopening.Reopened.{Reopened}
 use Rattle.px_run.specs.Course.{Course, Synced, Unread, TakenUp, GoneOn, Due, AfterFile, Leaves}
-use Rattle.px_run.specs.Ending.{Ending, session_ending, runaway_at_start, no_journal, journal_damaged, journal_plan, journal_runaway}
+use Rattle.px_ending.specs.Ending.{Ending, session_ending, runaway_at_start, no_journal, journal_damaged, journal_plan, journal_runaway}
 use Rattle.px_run.specs.Finishing.{ComesBack, Carries, Finishes}
 use Rattle.px_run.specs.Resume.{IsLeft, ResumeCarries}
 use Rattle.px_run.specs.Trace.{TraceCarries}
@@ -33,9 +33,9 @@ use Rattle.px_run.specs.Journaled.{IsSession, DueBehind, HasNoJournal, CannotRun
 use Rattle.px_run.specs.Kinds.{script_file}
 use Rattle.px_run.specs.Naming.{Naming}
 use Rattle.px_run.specs.Stops.{Performs, StopsReading, stop_of, stop_of_reopen}
-use Rattle.px_run.specs.declared.ending.End.{End}
-use Rattle.px_run.specs.declared.ending.End.TheVariants as ends
-use Rattle.px_run.specs.declared.ending.Stop.{Stop}
+use Rattle.px_ending.specs.declared.status.End.{End}
+use Rattle.px_ending.specs.declared.status.End.TheVariants as ends
+use Rattle.px_run.specs.declared.stop.Stop.{Stop}
 use Rattle.px_run.specs.declared.finishing.Carried.{Carried}
 use Rattle.px_run.specs.declared.finishing.Telling.TheVariants as tellings
 use Rattle.px_output.specs.Printing.{Prints}

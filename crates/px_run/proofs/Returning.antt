@@ -2,17 +2,17 @@
 use Rattle.std.proofs.Common.{◌≡◌, ◌≢◌, ℕ, Ok, Err, refl, sym, ◌∙◌, subst}
 use Rattle.px_ports.specs.declared.disk.Disk
 use Rattle.px_output.specs.View.{View}
-use Rattle.px_run.specs.declared.ending.End.{End}
-use Rattle.px_run.specs.declared.ending.Refusal.{Refusal}
-use Rattle.px_run.specs.declared.ending.Refusal.TheVariants as refusals
-use Rattle.px_run.specs.declared.ending.Stop.{Stop}
-use Rattle.px_run.specs.declared.ending.Stop.TheVariants as stops
+use Rattle.px_ending.specs.declared.status.End.{End}
+use Rattle.px_ending.specs.declared.refusal.Refusal.{Refusal}
+use Rattle.px_ending.specs.declared.refusal.Refusal.TheVariants as refusals
+use Rattle.px_run.specs.declared.stop.Stop.{Stop}
+use Rattle.px_run.specs.declared.stop.Stop.TheVariants as stops
 use Rattle.px_run.specs.declared.finishing.Carried.{Carried}
 use Rattle.px_run.specs.Causes.{IsHandedBack}
-use Rattle.px_run.specs.Ending.{disk_fault}
+use Rattle.px_ending.specs.Ending.{disk_fault}
 use Rattle.px_run.specs.Finishing.{ComesBack}
 use Rattle.px_run.specs.Headline.{Delivers}
-use Rattle.px_run.specs.Stops.{ending_of}
+use Rattle.px_ending.specs.Statuses.{ending_of}
 
 module _ {D : Type 0} (members : Disk.Ghosts D) (old : D) (carried : Carried D) (back : ComesBack members old carried) where
   -- a command that is carried out, or stops for another reason than the disk

@@ -31,7 +31,7 @@ use Rattle.px_run.specs.Finishing.{Carries, Finishes}
 use Rattle.px_run.specs.Journaled.{IsSession, DueBehind, NewCalls}
 use Rattle.px_run.specs.Naming.{Naming, new_naming, LeavesNames}
 use Rattle.px_run.specs.Stops.{stop_of_create}
-use Rattle.px_run.specs.declared.ending.Stop.{Stop}
+use Rattle.px_run.specs.declared.stop.Stop.{Stop}
 use Rattle.px_run.specs.declared.finishing.Carried.{Carried}
 use Rattle.px_run.specs.declared.finishing.Telling.{Telling}
 use Rattle.px_run.proofs.Finished.{due_behind_since, leaves_fronts, opening_stands}

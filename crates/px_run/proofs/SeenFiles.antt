@@ -7,11 +7,11 @@ use Rattle.px_syntax.specs.declared.fault.PlanFault.{PlanFault}
 use Rattle.px_syntax.specs.declared.fault.PlanFault.TheVariants as plans
 use Rattle.px_output.specs.View.{View, OnlyPrints, OnlyReads}
 use Rattle.px_run.specs.Course.{Course, Due, AfterFile}
-use Rattle.px_run.specs.Ending.{Ending}
+use Rattle.px_ending.specs.Ending.{Ending}
 use Rattle.px_run.specs.Reading.{FileKind, Seen, Content, Longer, Unreadable, Shows, Reads, with_text}
 use Rattle.px_run.specs.Kinds.{plan_file}
 use Rattle.px_run.specs.Stops.{stop_of_plan, StopsReading}
-use Rattle.px_run.specs.declared.ending.Stop.{Stop}
+use Rattle.px_run.specs.declared.stop.Stop.{Stop}
 
 -- ---- what was seen of a file is so of the whole call
 

@@ -18,9 +18,10 @@ use Rattle.px_run.specs.Course.{Untouched}
 use Rattle.px_run.specs.Journaled.{NewCalls, RunCallsBy}
 use Rattle.px_run.specs.Run.{PreparedCarries}
 use Rattle.px_run.specs.Soak.{soak_plan, soak_lines, IsSoakPrepared, IsSoakNotPrepared, SoakCalls, SoakCarries}
-use Rattle.px_run.specs.Stops.{stop_of_start, ending_of}
-use Rattle.px_run.specs.declared.ending.Stop.{Stop}
-use Rattle.px_run.specs.declared.ending.Stop.TheVariants as stops
+use Rattle.px_run.specs.Stops.{stop_of_start}
+use Rattle.px_ending.specs.Statuses.{ending_of}
+use Rattle.px_run.specs.declared.stop.Stop.{Stop}
+use Rattle.px_run.specs.declared.stop.Stop.TheVariants as stops
 use Rattle.px_run.specs.declared.finishing.Carried.{Carried}
 use Rattle.px_run.specs.declared.finishing.Telling.TheVariants as tellings
 use Rattle.px_run.specs.declared.run.Prepared.{Prepared}

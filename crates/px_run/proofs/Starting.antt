@@ -18,7 +18,7 @@ use Rattle.px_sem.specs.Text.{text_of, trace}
 use Rattle.px_sem.specs.World.{World}
 use Rattle.px_words.specs.Limited.{event_limit}
 use Rattle.px_run.specs.Course.{Untouched}
-use Rattle.px_run.specs.Ending.{runaway_at_start, start_ending, of_start, log_ending}
+use Rattle.px_ending.specs.Ending.{runaway_at_start, start_ending, of_start, log_ending}
 use Rattle.px_run.specs.Headline.{IsDryRun, DryRunOf}
 use Rattle.px_run.proofs.Finished.{prints_session}
 

@@ -18,7 +18,7 @@ use Rattle.px_script.specs.declared.stall.Stall.{Stall}
 use Rattle.px_script.specs.declared.script.Script.{Script}
 use Rattle.px_session.specs.Session.{IsNothing, StandsFor}
 use Rattle.px_words.specs.Words.{Command, Run, Resume, Names, Soak, plan_operand, script_operand, journal_operand, takes_up, runs_plan, command}
-use Rattle.px_run.specs.Ending.{Ending, nodes_ending, start_ending, stalled_ending}
+use Rattle.px_ending.specs.Ending.{Ending, nodes_ending, start_ending, stalled_ending}
 use Rattle.px_run.specs.Reading.{FileKind, Reads, IsRefusedAs, Holds, HoldsNone}
 use Rattle.px_run.specs.Journaled.{HasNoJournal, IsNamed, JournalRefuses}
 use Rattle.px_run.specs.Kinds.{plan_file, script_file}

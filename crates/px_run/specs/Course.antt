@@ -7,7 +7,7 @@ use Rattle.px_journal.specs.Layout.{is_nothing, Stands}
 use Rattle.px_ports.specs.declared.disk.Disk
 use Rattle.px_session.specs.Creating.{LeavesNew}
 use Rattle.px_session.specs.Session.{Session, unposted, HasOneHistory, LeavesFronts}
-use Rattle.px_run.specs.Ending.{Ending}
+use Rattle.px_ending.specs.Ending.{Ending}
 use Rattle.px_run.specs.Naming.{Naming, LeavesNames}
 use Rattle.px_run.specs.Reading.{FileKind, Seen, Shows, Spells, Refuses}
 use Rattle.px_output.specs.View.{View}

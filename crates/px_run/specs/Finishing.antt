@@ -13,8 +13,8 @@ use Rattle.px_run.specs.Course.{Course, Due, Leaves}
 use Rattle.px_run.specs.Journaled.{IsSession, DueBehind}
 use Rattle.px_run.specs.Naming.{others_of}
 use Rattle.px_run.specs.Stops.{Performs}
-use Rattle.px_run.specs.declared.ending.Refusal.TheVariants as refusals
-use Rattle.px_run.specs.declared.ending.Stop.TheVariants as stops
+use Rattle.px_ending.specs.declared.refusal.Refusal.TheVariants as refusals
+use Rattle.px_run.specs.declared.stop.Stop.TheVariants as stops
 use Rattle.px_run.specs.declared.finishing.Carried.{Carried}
 use Rattle.px_run.specs.declared.finishing.Telling.{Telling}
 

@@ -5,7 +5,7 @@ use Rattle.px_output.specs.View.{View}
 use Rattle.px_print.specs.Layout.{layout}
 use Rattle.px_syntax.specs.Plan.{PlanTree}
 use Rattle.px_run.specs.Course.{Course, Untouched, Due, EndsIn, AfterFile}
-use Rattle.px_run.specs.Ending.{Ending}
+use Rattle.px_ending.specs.Ending.{Ending}
 use Rattle.px_run.specs.Reading.{with_text}
 use Rattle.px_run.specs.Kinds.{plan_file}
 

@@ -13,7 +13,7 @@ use Rattle.px_sem.specs.Run.{started}
 use Rattle.px_words.specs.Limited.{event_limit}
 use Rattle.px_words.specs.Words.{Command, TraceStart, DryRun, Check, Format, Run, Resume, Trace, Names, Soak, command, journal_operand}
 use Rattle.px_run.specs.Course.{Course, Untouched, Due, EndsIn, AfterFile, Leaves}
-use Rattle.px_run.specs.Ending.{Ending, usage, nodes_ending, start_ending, log_ending, runaway_at_start}
+use Rattle.px_ending.specs.Ending.{Ending, usage, nodes_ending, start_ending, log_ending, runaway_at_start}
 use Rattle.px_run.specs.Format.{FormatCalls}
 use Rattle.px_run.specs.Journaled.{RunCalls, ResumeCalls, TraceCalls, NamesCalls}
 use Rattle.px_run.specs.Kinds.{plan_file, script_file}

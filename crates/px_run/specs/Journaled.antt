@@ -26,7 +26,7 @@ use Rattle.px_syntax.specs.declared.fault.PlanFault.{PlanFault}
 use Rattle.px_syntax.specs.declared.fault.PlanFault.TheVariants.{NoMemory as PlanOutOfMemory}
 use Rattle.px_output.specs.View.{View}
 use Rattle.px_run.specs.Course.{Course, Untouched, Synced, Unread, HalfMade, Made, TakenUp, GoneOn, Due, EndsIn, AfterFile}
-use Rattle.px_run.specs.Ending.{Ending, session_ending, stalled_ending, runaway_at_start, disk_fault, journal_exists, no_journal, journal_damaged, journal_plan, journal_runaway, names_ending}
+use Rattle.px_ending.specs.Ending.{Ending, session_ending, stalled_ending, runaway_at_start, disk_fault, journal_exists, no_journal, journal_damaged, journal_plan, journal_runaway, names_ending}
 use Rattle.px_run.specs.Naming.{Naming, new_naming}
 use Rattle.px_run.specs.Reading.{with_text}
 use Rattle.px_run.specs.Kinds.{plan_file, script_file}

@@ -6,7 +6,7 @@ use Rattle.px_syntax.specs.declared.fault.PlanFault.TheVariants.{NoMemory}
 use Rattle.px_compile.specs.Compiled.{IsCompiled, IsRefused}
 use Rattle.px_script.specs.declared.script.Script.{Script}
 use Rattle.px_script.specs.Script.{Threads, Fault, script}
-use Rattle.px_run.specs.Ending.{plan_too_long, plan_at_fault, script_too_long, script_at_fault}
+use Rattle.px_ending.specs.Ending.{plan_too_long, plan_at_fault, script_too_long, script_at_fault}
 use Rattle.px_run.specs.Reading.{FileKind}
 
 -- which bytes spell which plan, and how bytes that spell none are refused: for the first fault that a stage finds

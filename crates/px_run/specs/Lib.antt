@@ -1,5 +1,3 @@
-pub mod PlanRefusal
-pub mod Ending
 pub mod Reading
 pub mod Kinds
 pub mod Course

@@ -2,7 +2,7 @@
 use Rattle.std.specs.Prelude.{◌≡◌, ◌⊎◌, ◌<◌, ◌≤◌, ℕ, List, length, Some, IsSomeAnd}
 use Rattle.std.specs.Option.{ForSome}
 use Rattle.px_ports.specs.Host.{Files, file_at}
-use Rattle.px_run.specs.Ending.{Ending, read_fault}
+use Rattle.px_ending.specs.Ending.{Ending, read_fault}
 use Rattle.px_output.specs.View.{View}
 
 -- A kind of files: how many bytes one may have, what its bytes spell, and the endings by which a command refuses one that is

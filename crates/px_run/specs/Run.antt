@@ -9,13 +9,13 @@ use Rattle.px_sem.specs.Run.{run, started}
 use Rattle.px_sem.specs.Stepper.{Pending}
 use Rattle.px_sem.specs.declared.stepper.Stepper
 use Rattle.px_run.specs.Course.{Untouched, EndsIn, AfterFile}
-use Rattle.px_run.specs.Ending.{runaway_at_start}
+use Rattle.px_ending.specs.Ending.{runaway_at_start}
 use Rattle.px_run.specs.Reading.{Reads, with_text}
 use Rattle.px_run.specs.Journaled.{NewCalls, RunCalls}
 use Rattle.px_run.specs.Kinds.{plan_file, script_file}
-use Rattle.px_run.specs.Stops.{ending_of}
-use Rattle.px_run.specs.declared.ending.Stop.{Stop}
-use Rattle.px_run.specs.declared.ending.Stop.TheVariants as stops
+use Rattle.px_ending.specs.Statuses.{ending_of}
+use Rattle.px_run.specs.declared.stop.Stop.{Stop}
+use Rattle.px_run.specs.declared.stop.Stop.TheVariants as stops
 use Rattle.px_run.specs.declared.finishing.Carried.{Carried}
 use Rattle.px_run.specs.declared.finishing.Telling.{Telling}
 use Rattle.px_run.specs.declared.run.Prepared.{Prepared}

@@ -12,11 +12,11 @@ use Rattle.px_sem.specs.Stepper.{Pending}
 use Rattle.px_sem.specs.declared.stepper.Stepper
 use Rattle.px_words.specs.Limited.{event_limit}
 use Rattle.px_run.specs.Course.{Course, Untouched, Due}
-use Rattle.px_run.specs.Ending.{runaway_at_start}
+use Rattle.px_ending.specs.Ending.{runaway_at_start}
 use Rattle.px_run.specs.Journaled.{RunCallsBy}
-use Rattle.px_run.specs.Stops.{ending_of}
-use Rattle.px_run.specs.declared.ending.Stop.{Stop}
-use Rattle.px_run.specs.declared.ending.Stop.TheVariants as stops
+use Rattle.px_ending.specs.Statuses.{ending_of}
+use Rattle.px_run.specs.declared.stop.Stop.{Stop}
+use Rattle.px_run.specs.declared.stop.Stop.TheVariants as stops
 use Rattle.px_run.specs.declared.finishing.Carried.{Carried}
 use Rattle.px_run.specs.declared.finishing.Telling.TheVariants as tellings
 use Rattle.px_run.specs.declared.run.Prepared.{Prepared}

@@ -5,7 +5,7 @@ use Rattle.px_event.specs.declared.entry.Entry.{Entry}
 use Rattle.px_output.specs.Summary.{summary}
 use Rattle.px_sem.specs.Log.{Log}
 use Rattle.px_sem.specs.Text.{text_of}
-use Rattle.px_run.specs.Ending.{Ending}
+use Rattle.px_ending.specs.Ending.{Ending}
 use Rattle.px_run.specs.declared.finishing.Telling.{Telling}
 use Rattle.px_run.specs.declared.finishing.Telling.TheVariants as tellings
 

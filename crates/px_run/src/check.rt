@@ -10,8 +10,9 @@ ghost use Rattle.px_run.specs.Reading.{Reads};
 ghost use Rattle.px_run.specs.Stops.{Performs, StopsReading};
 ghost use Rattle.px_output.specs.View.{view, KeepsFiles, OnlyReads};
 
-use crate::ending::{End, Stop};
 use crate::reading::fetch_tree;
+use crate::stop::Stop;
+use px_ending::End;
 use px_output::emit_all;
 use px_ports::Host;
 use px_value::NoMemory;

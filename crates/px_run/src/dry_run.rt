@@ -8,9 +8,10 @@ ghost use Rattle.px_run.specs.Kinds.{script_file};
 ghost use Rattle.px_run.specs.Stops.{Performs};
 ghost use Rattle.px_output.specs.View.{view, KeepsFiles};
 
-use crate::ending::{End, Stop};
 use crate::reading::{fetch_plan, fetch_script};
+use crate::stop::Stop;
 use px_core::Plan;
+use px_ending::End;
 use px_output::{Draft, post_each_drafted, print_drafted, start_drafted};
 use px_ports::Host;
 use px_sem::Stepper;

@@ -11,7 +11,8 @@ ghost use Rattle.px_sem.specs.Log.{accepted, HasRun};
 ghost use Rattle.px_run.specs.Finishing.{Finishes};
 ghost use Rattle.px_run.specs.Telling.{told_text};
 
-use crate::ending::{End, Refusal, Stop};
+use crate::stop::Stop;
+use px_ending::{End, Refusal};
 use px_event::Entry;
 use px_exec::Exec;
 use px_output::{PrintFault, print_log, print_stalled, print_summary};

@@ -11,8 +11,9 @@ ghost use Rattle.px_run.specs.Format.{FormatCalls};
 ghost use Rattle.px_run.specs.Kinds.{plan_file};
 ghost use Rattle.px_run.specs.Stops.{Performs, StopsReading};
 
-use crate::ending::{End, Stop};
 use crate::reading::fetch_tree;
+use crate::stop::Stop;
+use px_ending::End;
 use px_output::emit_all;
 use px_ports::Host;
 use px_print::print;

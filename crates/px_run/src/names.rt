@@ -3,8 +3,8 @@ ghost use Rattle.std.specs.Prelude.{◌≡◌, None};
 ghost use Rattle.px_output.specs.View.{view, KeepsFiles};
 ghost use Rattle.px_run.specs.Names.{NamesCarries};
 
-use crate::ending::End;
 use crate::finishing::Carried;
+use px_ending::End;
 use px_journal::{RecoverFault, Recovered};
 use px_output::print_names;
 use px_ports::{Disk, Host};

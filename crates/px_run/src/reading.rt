@@ -11,9 +11,10 @@ ghost use Rattle.px_run.specs.Kinds.{plan_file, script_file};
 ghost use Rattle.px_run.specs.Stops.{StopsFetching, StopsReading};
 ghost use Rattle.px_output.specs.View.{view, OnlyReads};
 
-use crate::ending::{Refusal, Stop};
+use crate::stop::Stop;
 use px_compile::{Compiled, TEXT_LIMIT, compile, compile_tree};
 use px_core::Plan;
+use px_ending::Refusal;
 use px_ports::{Fetched, Host, HostFault};
 use px_script::{SCRIPT_LIMIT, Script, ScriptFault, read_script};
 use std::alloc::Global;

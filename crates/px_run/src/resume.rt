@@ -8,10 +8,10 @@ ghost use Rattle.px_run.specs.Resume.{ResumeCarries, IsLeft};
 ghost use Rattle.px_run.specs.Kinds.{script_file};
 ghost use Rattle.px_run.specs.Stops.{StopsReading};
 
-use crate::ending::Stop;
 use crate::finishing::{Carried, Telling, finish};
 use crate::naming::without_names;
 use crate::reading::fetch_script;
+use crate::stop::Stop;
 use px_core::Plan;
 use px_event::Entry;
 use px_ports::{Disk, Host};

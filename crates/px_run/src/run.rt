@@ -11,10 +11,10 @@ ghost use Rattle.px_run.specs.Kinds.{plan_file};
 ghost use Rattle.px_run.specs.Reading.{Reads, with_text};
 ghost use Rattle.px_run.specs.Run.{IsPrepared, IsNotPrepared, RunCarries, PreparedCarries};
 
-use crate::ending::Stop;
 use crate::finishing::{Carried, Telling, finish};
 use crate::naming::without_names;
 use crate::reading::{Source, fetch_script, fetch_source};
+use crate::stop::Stop;
 use px_core::Plan;
 use px_journal::CreateFault;
 use px_ports::{Disk, Host};

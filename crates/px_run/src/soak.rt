@@ -7,9 +7,9 @@ ghost use Rattle.px_core.specs.Plan.{tree_of};
 ghost use Rattle.px_output.specs.View.{view, KeepsFiles};
 ghost use Rattle.px_run.specs.Soak.{soak_plan, IsSoakPrepared, IsSoakNotPrepared, SoakCarries};
 
-use crate::ending::Stop;
 use crate::finishing::{Carried, Telling};
 use crate::run::{Prepared, run_prepared};
+use crate::stop::Stop;
 use px_compile::compile;
 use px_core::Plan;
 use px_ports::{Disk, Host};

@@ -3,8 +3,8 @@ ghost use Rattle.std.specs.Prelude.{◌≡◌, None};
 ghost use Rattle.px_output.specs.View.{view, KeepsFiles};
 ghost use Rattle.px_run.specs.Trace.{TraceCarries};
 
-use crate::ending::End;
 use crate::finishing::Carried;
+use px_ending::End;
 use px_exec::Parts;
 use px_output::print_log;
 use px_ports::{Disk, Host};

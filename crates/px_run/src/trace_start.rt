@@ -5,8 +5,9 @@ ghost use Rattle.px_run.specs.Headline.{TraceStartCalls};
 ghost use Rattle.px_run.specs.Stops.{Performs};
 ghost use Rattle.px_output.specs.View.{view, KeepsFiles};
 
-use crate::ending::{End, Stop};
 use crate::reading::fetch_plan;
+use crate::stop::Stop;
+use px_ending::End;
 use px_output::{Draft, print_drafted, start_drafted};
 use px_ports::Host;
 use px_sem::Stepper;

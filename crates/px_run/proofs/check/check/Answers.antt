@@ -3,11 +3,11 @@ use Rattle.std.specs.Prelude.{codes, decimal}
 use Rattle.px_core.specs.Plan.{Tree}
 use Rattle.px_sem.specs.Text.{line}
 use Rattle.px_run.specs.Course.{Untouched, EndsIn, AfterFile}
-use Rattle.px_run.specs.Ending.{nodes_ending}
+use Rattle.px_ending.specs.Ending.{nodes_ending}
 use Rattle.px_run.specs.Headline.{CheckCalls}
 use Rattle.px_run.specs.Kinds.{plan_file}
 use Rattle.px_output.specs.View.{view}
-use Rattle.px_run.specs.declared.ending.End.TheVariants as ends
+use Rattle.px_ending.specs.declared.status.End.TheVariants as ends
 use Rattle.px_run.proofs.Performing.{reading_stopped, memory_stopped, printed_behind, broken_off_behind}
 use Rattle.px_output.proofs.Printed.{text_printed}
 use Rattle.px_run.proofs.check.check.Goals as goal

@@ -4,11 +4,11 @@ use Rattle.px_sem.proofs.Logs.{fit_accepted, run_started}
 use Rattle.px_sem.specs.Stepper.{State}
 use Rattle.px_script.specs.declared.script.Script.{Script}
 use Rattle.px_run.specs.Course.{Untouched, AfterFile}
-use Rattle.px_run.specs.Ending.{log_ending}
+use Rattle.px_ending.specs.Ending.{log_ending}
 use Rattle.px_run.specs.Headline.{DryRunOf}
 use Rattle.px_run.specs.Kinds.{script_file}
 use Rattle.px_output.specs.View.{view}
-use Rattle.px_run.specs.declared.ending.End.TheVariants as ends
+use Rattle.px_ending.specs.declared.status.End.TheVariants as ends
 use Rattle.px_run.proofs.Performing.{reading_stopped, memory_stopped, start_stopped_behind, printed_behind, broken_off_behind}
 use Rattle.px_run.proofs.Starting.{has_run_still, holds_still, start_held, nodes_at_rest, posted_all, prints_log}
 use Rattle.px_run.proofs.dry_run.dry_run_plan.Goals as goal

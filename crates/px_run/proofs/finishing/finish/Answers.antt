@@ -8,9 +8,9 @@ use Rattle.px_script.specs.Follows.{AreStalled}
 use Rattle.px_sem.specs.Log.{Log}
 use Rattle.px_sem.specs.Stepper.{State}
 use Rattle.px_sem.specs.Text.{text_of}
-use Rattle.px_run.specs.Ending.{stalled_ending}
+use Rattle.px_ending.specs.Ending.{stalled_ending}
 use Rattle.px_run.specs.Telling.{told_text, told_ending}
-use Rattle.px_run.specs.declared.ending.End.TheVariants as ends
+use Rattle.px_ending.specs.declared.status.End.TheVariants as ends
 use Rattle.px_run.proofs.Finished.{prints_session, due_whole, due_stalled, finished_printed, finished_broken_off, finished_failed, finished_early}
 use Rattle.px_run.proofs.finishing.finish.Goals as goal
 use Rattle.px_run.proofs.finishing.finish.Goals.{in-Done+in-Ok, in-Done+in-Err, in-Stalled, in-Ok-print_stalled, in-Err-print_stalled, in-Disk, in-NoMemory}

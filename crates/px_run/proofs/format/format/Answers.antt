@@ -5,7 +5,7 @@ use Rattle.px_run.specs.Reading.{with_text}
 use Rattle.px_run.specs.Format.{LaysOut, layout_ending}
 use Rattle.px_run.specs.Kinds.{plan_file}
 use Rattle.px_output.specs.View.{view}
-use Rattle.px_run.specs.declared.ending.End.TheVariants as ends
+use Rattle.px_ending.specs.declared.status.End.TheVariants as ends
 use Rattle.px_run.proofs.Performing.{reading_stopped, printed_behind, broken_off_behind}
 use Rattle.px_run.proofs.Preparing.{stops_with_text}
 use Rattle.px_output.proofs.Printed.{text_printed}

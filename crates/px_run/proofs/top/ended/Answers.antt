@@ -3,7 +3,7 @@ use Rattle.std.specs.String.{string_bytes}
 use Rattle.px_output.specs.View.{view}
 use Rattle.px_run.specs.Causes.{IsHandedBack}
 use Rattle.px_run.specs.Headline.{Headline}
-use Rattle.px_run.specs.Stops.{number_of}
+use Rattle.px_ending.specs.Statuses.{number_of}
 use Rattle.px_run.proofs.Delivering.{done_delivered, fault_delivered, memory_delivered, refusal_delivered}
 use Rattle.px_run.proofs.Returning.{done_handed_back, stop_handed_back, refusal_handed_back}
 use Rattle.px_run.proofs.top.ended.Goals as goal

@@ -1,5 +1,5 @@
 use Rattle.std.proofs.Common.{◌∙◌}
-use Rattle.px_run.specs.Stops.{ending_of}
+use Rattle.px_ending.specs.Statuses.{ending_of}
 use Rattle.px_output.specs.View.{view}
 use Rattle.px_run.proofs.Delivering.{emits_none, emits_all, emits_till_fault}
 use Rattle.px_run.proofs.top.refuse.Goals as goal

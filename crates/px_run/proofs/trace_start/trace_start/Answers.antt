@@ -1,13 +1,13 @@
 use Rattle.std.proofs.Common.{[], Some, Ok, Err, refl, ap, subst}
 use Rattle.px_core.specs.Plan.{Tree, tree_of, sites}
 use Rattle.px_run.specs.Course.{Untouched, EndsIn}
-use Rattle.px_run.specs.Ending.{start_ending, log_ending}
+use Rattle.px_ending.specs.Ending.{start_ending, log_ending}
 use Rattle.px_run.specs.Kinds.{plan_file}
 use Rattle.px_output.specs.Printing.{Prints}
 use Rattle.px_output.specs.View.{view}
 use Rattle.px_sem.specs.Stepper.{State}
 use Rattle.px_sem.specs.Text.{text_of}
-use Rattle.px_run.specs.declared.ending.End.TheVariants as ends
+use Rattle.px_ending.specs.declared.status.End.TheVariants as ends
 use Rattle.px_run.proofs.Performing.{reading_stopped, start_stopped_behind, printed_behind, broken_off_behind}
 use Rattle.px_run.proofs.Starting.{started_has_run, start_held, nodes_at_rest, start_is, runs_away}
 use Rattle.px_run.proofs.trace_start.trace_start.Goals as goal

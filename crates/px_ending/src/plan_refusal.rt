@@ -2,8 +2,8 @@
 ghost use Rattle.std.specs.Prelude.{◌≡◌, ◌++◌, IfOk, codes};
 ghost use Rattle.std.specs.String.{string_bytes};
 ghost use Rattle.px_sem.specs.Text.{line};
-ghost use Rattle.px_run.specs.Ending.{plan_at_fault};
-ghost use Rattle.px_run.specs.PlanRefusal.{lex_reason, parse_reason, check_reason, expand_reason};
+ghost use Rattle.px_ending.specs.Ending.{plan_at_fault};
+ghost use Rattle.px_ending.specs.PlanRefusal.{lex_reason, parse_reason, check_reason, expand_reason};
 
 use px_lex::LexFault;
 use px_syntax::{CheckFault, ExpandFault, ParseFault, PlanFault};

@@ -11,7 +11,7 @@ use Rattle.px_event.specs.declared.named.NamedEntry.{NamedEntry}
 use Rattle.px_trace.specs.Names.{name_lines}
 use Rattle.px_output.specs.Stalls.{stall_lines}
 use Rattle.px_syntax.specs.declared.fault.PlanFault.{PlanFault}
-use Rattle.px_run.specs.PlanRefusal.{plan_reason}
+use Rattle.px_ending.specs.PlanRefusal.{plan_reason}
 
 -- a status and a text
 pub record Ending : Type 0 where

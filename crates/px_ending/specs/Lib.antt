@@ -1,0 +1,3 @@
+pub mod PlanRefusal
+pub mod Ending
+pub mod Statuses
