@@ -4,10 +4,11 @@ use Rattle.std.proofs.lemmas.List.{append_cancel_left, map-append}
 use Rattle.std.proofs.lemmas.List.Elements.{filter-append}
 use Rattle.std.proofs.lemmas.Option.{none-some}
 use Rattle.std.specs.Option.{option_or}
+use Rattle.px_value.specs.General.{is_number}
 use Rattle.px_value.proofs.General.{none_from}
 use Rattle.px_exec.specs.declared.closing.Failed.{Failed}
 use Rattle.px_sem.specs.Log.{Log}
-use Rattle.px_turn.specs.Histories.{items, is_number, positions_from, positions}
+use Rattle.px_turn.specs.Histories.{items, positions_from, positions}
 use Rattle.px_turn.specs.declared.view.Stamped.{Stamped}
 use Rattle.px_turn.proofs.Positions.{positions-append}
 use Rattle.px_desk.specs.Listing.{listing_of, log_in, failed_in}

@@ -4,6 +4,7 @@ use Rattle.std.proofs.Common.{◌≡◌, ◌≢◌, ℕ, ◌<◌, Bool, true, fa
 use Rattle.std.specs.List.{All, Contains}
 use Rattle.std.proofs.lemmas.Bool.{cases_eq}
 use Rattle.std.proofs.lemmas.List.Elements.{All-nil, All-cons, All-head, All-tail, Contains-get_or}
+use Rattle.px_value.specs.General.{is_number}
 use Rattle.px_value.proofs.General.{All-unmap}
 use Rattle.px_event.specs.declared.entry.Entry.{Entry}
 use Rattle.px_exec.specs.declared.closing.Failed.{Failed}
@@ -12,7 +13,7 @@ use Rattle.px_script.specs.Remainder.{entries_of}
 use Rattle.px_script.specs.declared.todo.Todo.{Todo}
 use Rattle.px_sem.specs.Log.{posted_in}
 use Rattle.px_sem.specs.declared.log.LogEntry.{LogEntry}
-use Rattle.px_turn.specs.Histories.{items, is_number, AreMade}
+use Rattle.px_turn.specs.Histories.{items, AreMade}
 use Rattle.px_turn.specs.declared.view.Stamped.{Stamped}
 use Rattle.px_desk.specs.Listing.{log_in, failed_in}
 use Rattle.px_desk.specs.declared.listing.Listing.{Listing}

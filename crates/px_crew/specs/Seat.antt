@@ -1,10 +1,11 @@
 -- What a seat of a desk shows as a board.
 use Rattle.std.specs.Prelude.{◌≡◌, ℕ, List, filter, Option}
 use Rattle.std.specs.Option.{option_map}
+use Rattle.px_value.specs.General.{is_number}
 use Rattle.px_event.specs.declared.entry.Entry.{Entry}
 use Rattle.px_exec.specs.declared.closing.Failed.{Failed}
 use Rattle.px_sem.specs.Log.{posted_in}
-use Rattle.px_turn.specs.Histories.{IsFront, is_number, items}
+use Rattle.px_turn.specs.Histories.{IsFront, items}
 use Rattle.px_turn.specs.declared.view.Stamped.{Stamped}
 use Rattle.px_desk.specs.Listing.{Start, log_in, failed_in}
 use Rattle.px_desk.specs.Seating.{Seating, HasMade}

@@ -6,8 +6,9 @@ use native.Mathlib.Decide.{ℕ_discrete}
 use lib.ListN.{get_elem?}
 use Rattle.std.proofs.lemmas.Bool.{cases_lt, false_from_ne_true}
 use Rattle.atomic_table.specs.Table.{State, step, stepped, keeps, takes, Allows}
+use Rattle.px_value.specs.General.{is_number}
 use Rattle.px_turn.specs.declared.view.View.{View}
-use Rattle.px_turn.specs.Histories.{is_number, AreMade, HasPositions}
+use Rattle.px_turn.specs.Histories.{AreMade, HasPositions}
 use Rattle.px_turn.specs.Views.{with_turn}
 use Rattle.px_turn.specs.Rule.{one_if, waiting, holders, Fits, HaveNoTurn, IsHome, IsRuled, words_of}
 use Rattle.px_turn.specs.Steps.{Sat, looked, compared}

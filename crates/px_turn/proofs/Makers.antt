@@ -3,10 +3,11 @@ use Rattle.std.proofs.Common.{rules, ◌≡◌, ◌≢◌, ℕ, zero, suc, ◌+�
 use Rattle.std.specs.Cmp.{nat_eq_equiv}
 use Rattle.std.proofs.lemmas.List.{get_or_past, length-map}
 use Rattle.std.proofs.lemmas.List.Elements.{All-head, All-tail}
+use Rattle.px_value.specs.General.{is_number}
 use Rattle.px_turn.specs.declared.view.Record.{Record}
 use Rattle.px_turn.specs.declared.view.Stamped.{Stamped}
 use Rattle.px_turn.specs.declared.view.View.{View}
-use Rattle.px_turn.specs.Histories.{stamped, is_number, opened, positions, positions_from, HasPositions, IsMade, AreMade}
+use Rattle.px_turn.specs.Histories.{stamped, opened, positions, positions_from, HasPositions, IsMade, AreMade}
 use Rattle.px_turn.specs.Views.{records}
 use Rattle.px_turn.specs.Rule.{one_if, times, total}
 use Rattle.px_turn.specs.Seats.{IsWhole, makers_at, AreMadeOnce}

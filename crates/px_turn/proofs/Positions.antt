@@ -3,8 +3,9 @@ use Rattle.std.proofs.Common.{◌≡◌, ◌≢◌, ℕ, ◌+◌, ◌≤◌, Boo
 use Rattle.std.proofs.lemmas.List.Elements.{All-head, All-tail}
 use Rattle.std.proofs.lemmas.List.Folds.{map_fixed}
 use Rattle.std.proofs.lemmas.Simd.{map-map}
+use Rattle.px_value.specs.General.{is_number}
 use Rattle.px_turn.specs.declared.view.Stamped.{Stamped}
-use Rattle.px_turn.specs.Histories.{stamped, items, opened, is_number, positions_from, positions, IsMade, AreMade}
+use Rattle.px_turn.specs.Histories.{stamped, items, opened, positions_from, positions, IsMade, AreMade}
 
 module _ {I : Type 0} where
   pub positions-append : (number at : ℕ) (xs ys : List (Stamped I))

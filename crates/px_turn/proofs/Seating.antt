@@ -8,10 +8,10 @@ use lib.Seq.{set-get_or}
 use Rattle.std.proofs.lemmas.List.Elements.{All-head, All-tail}
 use Rattle.atomic_table.specs.Table.{State, stepped, keeps}
 use Rattle.atomic_table.proofs.Lists.{at_set, set_here, set_else, set_again}
+use Rattle.px_value.specs.General.{is_number}
 use Rattle.px_turn.specs.declared.view.Record.{Record}
 use Rattle.px_turn.specs.declared.view.Stamped.{Stamped}
 use Rattle.px_turn.specs.declared.view.View.{View}
-use Rattle.px_turn.specs.Histories.{is_number}
 use Rattle.px_turn.specs.Views.{record_of, records, numbers}
 use Rattle.px_turn.specs.Rule.{one_if, times, waiting, AreTickets, AreNumbered, HaveNoTurn, IsRuled}
 use Rattle.px_turn.proofs.Totals.{total_same}

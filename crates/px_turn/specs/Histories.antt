@@ -1,7 +1,8 @@
 -- Histories: lists of entries, each with the number of the seat that made it, or with none where it was there at the
 -- opening.
-use Rattle.std.specs.Prelude.{◌≡◌, ℕ, ◌+◌, ◌<◌, Bool, false, nat_eq, ltb, if◌then◌else◌, List, [], ◌∷◌, ◌++◌, map, length, Option, Some, None}
+use Rattle.std.specs.Prelude.{◌≡◌, ℕ, ◌+◌, ◌<◌, ltb, if◌then◌else◌, List, [], ◌∷◌, ◌++◌, map, length, Option, Some, None}
 use Rattle.std.specs.List.{All}
+use Rattle.px_value.specs.General.{is_number}
 use Rattle.px_turn.specs.declared.view.Record.{Record}
 use Rattle.px_turn.specs.declared.view.Stamped.{Stamped}
 
@@ -17,11 +18,6 @@ module _ {A : Type 0} where
   -- the other one
   abbrev pub shorter : List A → List A → List A
   shorter xs ys = if ltb (length xs) (length ys) then xs else ys
-
--- whether it is this number
-abbrev pub is_number : Option ℕ → ℕ → Bool
-is_number None number = false
-is_number (Some other) number = nat_eq other number
 
 module _ {I : Type 0} where
   abbrev pub stamped : Option ℕ → I → Stamped I

@@ -4,9 +4,10 @@ use Rattle.std.specs.List.{All}
 use mathlib.Core.Option.{some}
 use lib.ListN.{get_elem?}
 use Rattle.atomic_table.specs.Table.{State}
+use Rattle.px_value.specs.General.{is_number}
 use Rattle.px_turn.specs.declared.view.Stamped.{Stamped}
 use Rattle.px_turn.specs.declared.view.View.{View}
-use Rattle.px_turn.specs.Histories.{IsFront, is_number, items, opened, AreMade, HasPositions}
+use Rattle.px_turn.specs.Histories.{IsFront, items, opened, AreMade, HasPositions}
 use Rattle.px_turn.specs.Views.{records, numbers}
 
 -- 1 where it is so
