@@ -1,20 +1,25 @@
 -- What each moment of a creation leaves: the closed master gate, what goes behind it, and the open one.
 use Rattle.std.proofs.Common.{◌≡◌, ◌≤◌, ◌<◌, ◌+◌, ◌⊎◌, inl, inr, ⊎_elim, ℕ, false, List, [], ◌∷◌, ◌++◌, length, take, drop, refl, sym, ◌∙◌, ap, subst, arith, append_assoc, IsTrue}
-use Rattle.std.specs.Prelude.{Some, Result, Ok, Err, OnOk, IsFalse, is_some, nat_lt, slice_range}
+use Rattle.std.specs.Prelude.{Some, Result, Ok, Err, OnOk, IsFalse, IfOk, is_some, nat_lt, slice_range}
 use Rattle.std.specs.Option.{ForSome, option_map}
 use Rattle.std.proofs.lemmas.Bool.{cases_Bool, le-ltb, lt-ltb, or_left, or_right, or_from}
 use Rattle.std.proofs.lemmas.List.{take_at, drop_at, drop-drop, length-take}
 use Rattle.px_value.proofs.General.{is_some_at, option_map_some, told_of}
 use Rattle.px_ports.specs.Disk.{Told}
 use Rattle.px_ports.specs.Moment.{Images, Torn, Elapses, Stays, overwritten}
+use Rattle.px_ports.specs.declared.disk.Disk
 use Rattle.px_ports.specs.declared.disk.DiskFault.{DiskFault}
 use Rattle.px_ports.specs.declared.moment.Moment.{Moment}
-use Rattle.px_journal.specs.Crash.{Puts, LeavesOnly, OldOrNewAs}
+use Rattle.px_journal.specs.Crash.{Puts, LeavesOnly, OldOrNew, OldOrNewAs}
+use Rattle.px_journal.specs.Goes.{LeavesAtMost}
+use Rattle.px_journal.specs.Journal.{IsReady, IsReadyAs}
 use Rattle.px_journal.specs.Layout.{heading, is_open, is_closed, is_nothing, next_gate, StandsAs}
+use Rattle.px_journal.specs.declared.fault.CreateFault.{CreateFault}
+use Rattle.px_journal.specs.declared.journal.Journal.{Journal}
 use Rattle.px_journal.specs.declared.version.Version.{Version}
 use Rattle.px_journal.proofs.Appending.{closed_within, open_or_closed, same_told}
 use Rattle.px_journal.proofs.Fronts.{is_closed-front}
-use Rattle.px_journal.proofs.Moments.{leaves, leaves_both, leaves_on}
+use Rattle.px_journal.proofs.Moments.{leaves, leaves_both, leaves_more, leaves_on}
 use Rattle.px_journal.proofs.Reading.{part_is}
 use Rattle.px_journal.proofs.Torn.{torn_below, torn_above, written_below, written_from, written_above}
 
@@ -150,3 +155,20 @@ pub old_or_new : (version : Version) (images : Images) (text : List ℕ) (old mi
     → LeavesOnly images (λ image. IsTrue (is_nothing image) ⊎ StandsAs version image text []) mid new → LeavesOnly images (OldOrNewAs version (images old) text) old new
 old_or_new version images text old mid new first second = leaves_both images _ _ (OldOrNewAs version (images old) text) old mid new
     (λ image left. ⊎_elim (λ was. inl was) (λ none. inr (inl none)) left) (λ image left. inr left) first second
+
+-- ---- the same in whatever version, for those who make a journal
+
+whatever_version : (version : Version) (old : List ℕ → Type 0) (text bytes : List ℕ) → OldOrNewAs version old text bytes → OldOrNew old text bytes
+whatever_version version old text bytes = ⊎_elim (λ was. inl was) (λ new. inr (⊎_elim (λ none. inl none)
+    (λ stands. inr (record { version = version; named = []; stands = stands; entries_are = refl })) new))
+
+module _ {D : Type 0} (members : Disk.Ghosts D) (text : List ℕ) where
+  pub made_ready : (result : Result (Journal D) (CreateFault D)) → IfOk result (λ journal. IsReadyAs members journal text [])
+      → IfOk result (λ journal. IsReady members journal text [])
+  made_ready (Ok journal) ready = record { named = []; ready = ready; entries_are = refl }
+  made_ready (Err fault) ready = tt
+
+  pub made_leaves : (version : Version) (old new : D) → LeavesAtMost members (OldOrNewAs version (members.images (members.moments old)) text) old new
+      → LeavesAtMost members (OldOrNew (members.images (members.moments old)) text) old new
+  made_leaves version old new leaves told is =
+      leaves_more members.images _ _ _ _ (whatever_version version (members.images (members.moments old)) text) (leaves told is)

@@ -15,8 +15,7 @@ use Rattle.px_journal.specs.Layout.{entries, interfaces, is_fit, is_open, next_g
 use Rattle.px_journal.specs.declared.version.Version.{Version}
 use Rattle.px_journal.proofs.Fronts.{Front-push, fits-push, next_gate-push}
 use Rattle.px_journal.proofs.Histories.{length-heading, map-push}
-use Rattle.px_journal.proofs.Going.{rises_none, reads_then}
-use Rattle.px_journal.proofs.Moments.{reads_none}
+use Rattle.px_journal.proofs.Going.{reads_nothing, reads_then}
 
 -- behind this history stands the gate at this place, nothing was written, and no call has failed
 pub record HasRead {D : Type 0} (members : Disk.Ghosts D) (old now : D) (version : Version) (plan : List ℕ) (size : ℕ) (history : List NamedEntry) (gate : ℕ) : Type 0 where
@@ -87,12 +86,7 @@ read_nothing members disk version plan size within front =
       fit = refl;
       few = omega arith;
       front = front;
-      reads = record {
-        only = reads_none members.images (members.content disk) (members.moments disk);
-        unwritten = refl;
-        stays = record { bound = refl; attached = refl };
-        faults = rises_none (members.faults disk) (λ failed. failed);
-      };
+      reads = reads_nothing members disk (λ failed. failed);
     }
 
 pub full_history : (n : ℕ) → IsTrue (n == 100000) → n ≡ 100000

@@ -1,13 +1,19 @@
-use Rattle.std.proofs.Common.{◌≤◌, length, sym, ◌∙◌, arith}
+use Rattle.std.proofs.Common.{◌≤◌, false, Err, length, refl, sym, ◌∙◌, arith}
+use Rattle.std.specs.Prelude.{IsErrOf}
 use Rattle.std.proofs.lemmas.Bool.{both_ways}
+use Rattle.std.proofs.result.Match.{err_is}
 use Rattle.px_ports.specs.Moment.{Stays}
 use Rattle.px_journal.specs.Layout.{is_nothing}
+use Rattle.px_journal.specs.declared.fault.CreateWhy.TheVariants as whys
 use Rattle.px_journal.proofs.Creating.{closed_nothing, not_nothing, gate_read, same_leaves, short_leaves}
-use Rattle.px_journal.proofs.Going.{unwritten_then}
+use Rattle.px_journal.proofs.Going.{goes_by_reads, goes_by_sync, goes_right, goes_then, goes_told, ok_no_err, reads_by_call, reads_by_fault, reads_then, rises_failed, rises_right, unwritten_then}
 use Rattle.px_journal.proofs.Reading.{front_open, front_closed}
 use Rattle.px_journal.proofs.Undamaged.{open_not_closed}
 use Rattle.px_journal.proofs.Moments.{elapses_on}
 use Rattle.px_journal.proofs.create.close_master_gate.Goals as goal
+
+exists_not_fault : {T : Type 0} → IsErrOf {T = T} (Err whys.Exists) whys.DiskFault → ⊥
+exists_not_fault same = cc
 
 pub returns-in_err-len-clause-old_or_nothing : goal.returns-in_err-len-clause-old_or_nothing
 returns-in_err-len-clause-old_or_nothing g c = λ told is. same_leaves g.D.Disk.images _ _ c.len.ensures.reads.elapses
@@ -86,3 +92,49 @@ pub returns-clause-old_or_nothing : goal.returns-clause-old_or_nothing
 returns-clause-old_or_nothing g c = λ told is.
     same_leaves g.D.Disk.images _ _
     (elapses_on g.D.Disk.images Stays _ _ _ (elapses_on g.D.Disk.images Stays _ _ _ c.len.ensures.reads.elapses c.read_at.ensures.reads.elapses) c.sync.ensures.syncs.elapses)
+
+pub returns-in_err-len-clause-goes : goal.returns-in_err-len-clause-goes
+returns-in_err-len-clause-goes g c =
+    let len = c.in_err-len.ensures in
+    goes_by_reads g.D.Disk (reads_by_fault g.D.Disk len.reads len.unwritten len.stays len.cause (err_is _ whys.DiskFault c.from_residual.ensures.1))
+
+pub returns-in_err-put-clause-goes : goal.returns-in_err-put-clause-goes
+returns-in_err-put-clause-goes g c =
+    let len = c.in_ok-len.ensures in
+    goes_then g.D.Disk (goes_by_reads g.D.Disk (reads_by_call g.D.Disk _ len.reads len.unwritten len.stays len.cause)) (λ failed. failed)
+    (goes_told g.D.Disk c.in_err-put.ensures.goes (λ failed. err_is _ whys.DiskFault c.from_residual-in_err-put.ensures.1) (λ failed. refl))
+
+pub returns-then-branch-lt-TEXT_PLACE-clause-goes : goal.returns-then-branch-lt-TEXT_PLACE-clause-goes
+returns-then-branch-lt-TEXT_PLACE-clause-goes g c =
+    let len = c.in_ok-len.ensures in
+    goes_then g.D.Disk (goes_by_reads g.D.Disk (reads_by_call g.D.Disk _ len.reads len.unwritten len.stays len.cause)) (λ failed. failed)
+    (goes_right g.D.Disk c.in_ok-put.ensures.goes (both_ways false refl) ok_no_err)
+
+pub returns-in_err-read_at-clause-goes : goal.returns-in_err-read_at-clause-goes
+returns-in_err-read_at-clause-goes g c =
+    let len = c.in_ok-len.ensures in
+    let read = c.in_err-read_at.ensures in
+    goes_by_reads g.D.Disk (reads_then g.D.Disk (reads_by_call g.D.Disk _ len.reads len.unwritten len.stays len.cause) (λ failed. failed)
+    (reads_by_fault g.D.Disk read.reads read.unwritten read.stays read.cause (err_is _ whys.DiskFault c.from_residual-in_err-read_at.ensures.1)))
+
+pub returns-then-gate-ne-CLOSED-clause-goes : goal.returns-then-gate-ne-CLOSED-clause-goes
+returns-then-gate-ne-CLOSED-clause-goes g c =
+    let len = c.in_ok-len.ensures in
+    let read = c.in_ok-read_at.ensures in
+    goes_right g.D.Disk (goes_by_reads g.D.Disk (reads_then g.D.Disk (reads_by_call g.D.Disk _ len.reads len.unwritten len.stays len.cause) (λ failed. failed) (reads_by_call g.D.Disk _ read.reads read.unwritten read.stays read.cause))) (λ failed. failed) exists_not_fault
+
+pub returns-in_err-sync-clause-goes : goal.returns-in_err-sync-clause-goes
+returns-in_err-sync-clause-goes g c =
+    let len = c.in_ok-len.ensures in
+    let read = c.in_ok-read_at.ensures in
+    let sync = c.in_err-sync.ensures in
+    goes_then g.D.Disk (goes_by_reads g.D.Disk (reads_then g.D.Disk (reads_by_call g.D.Disk _ len.reads len.unwritten len.stays len.cause) (λ failed. failed) (reads_by_call g.D.Disk _ read.reads read.unwritten read.stays read.cause))) (λ failed. failed)
+    (goes_by_sync g.D.Disk sync.syncs sync.stays (rises_failed sync.cause (err_is _ whys.DiskFault c.from_residual-in_err-sync.ensures.1)))
+
+pub returns-clause-goes : goal.returns-clause-goes
+returns-clause-goes g c =
+    let len = c.in_ok-len.ensures in
+    let read = c.in_ok-read_at.ensures in
+    let sync = c.in_ok-sync.ensures in
+    goes_right g.D.Disk (goes_then g.D.Disk (goes_by_reads g.D.Disk (reads_then g.D.Disk (reads_by_call g.D.Disk _ len.reads len.unwritten len.stays len.cause) (λ failed. failed) (reads_by_call g.D.Disk _ read.reads read.unwritten read.stays read.cause))) (λ failed. failed)
+    (goes_by_sync g.D.Disk sync.syncs sync.stays (rises_right sync.cause))) (λ failed. failed) ok_no_err

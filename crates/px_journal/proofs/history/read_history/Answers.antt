@@ -1,6 +1,6 @@
 use Rattle.std.proofs.Common.{◌≡◌, [], ◌∷◌, Err, length, sym, ◌∙◌, ap, arith, length-append}
 use Rattle.px_journal.specs.declared.fault.RecoverWhy.TheVariants as whys
-use Rattle.px_journal.proofs.Going.{fault_came, handed_to, handed_from, other_fault, reads_then, reads_told}
+use Rattle.px_journal.proofs.Going.{fault_came, handed_to, handed_from, ok_no_err, other_fault, reads_right, reads_then, reads_told, recover_memory_no_fault}
 use Rattle.px_journal.proofs.Histories.{entries_count}
 use Rattle.px_journal.proofs.Walking.{read_next, read_both, read_damaged, read_nothing, full_history, room_in_history}
 use Rattle.px_journal.proofs.Windows.{shows_nothing}
@@ -25,18 +25,18 @@ returns-in_err-named-clause-reads g c =
 
 pub returns-in_err-push-in-Some-clause-reads : goal.returns-in_err-push-in-Some-clause-reads
 returns-in_err-push-in-Some-clause-reads g c =
-    reads_told g.D.Disk (reads_then g.D.Disk (c.loop-window.invariant.0).read.reads (λ failed. failed) c.in_ok-named.ensures.reads)
-    (λ failed. absurd (cc)) (λ failed. absurd (other_fault c.from_residual-in_err-push-in-Some.ensures.1 (λ same. absurd (cc)) failed))
+    reads_right g.D.Disk (reads_then g.D.Disk (c.loop-window.invariant.0).read.reads (λ failed. failed) c.in_ok-named.ensures.reads)
+    ok_no_err (other_fault c.from_residual-in_err-push-in-Some.ensures.1 recover_memory_no_fault)
 
 pub returns-in_err-push-in-Some-2-clause-reads : goal.returns-in_err-push-in-Some-2-clause-reads
 returns-in_err-push-in-Some-2-clause-reads g c =
-    reads_told g.D.Disk (reads_then g.D.Disk (c.loop-window.invariant.0).read.reads (λ failed. failed) c.in_ok-named.ensures.reads)
-    (λ failed. absurd (cc)) (λ failed. absurd (other_fault c.from_residual-in_err-push-in-Some-2.ensures.1 (λ same. absurd (cc)) failed))
+    reads_right g.D.Disk (reads_then g.D.Disk (c.loop-window.invariant.0).read.reads (λ failed. failed) c.in_ok-named.ensures.reads)
+    ok_no_err (other_fault c.from_residual-in_err-push-in-Some-2.ensures.1 recover_memory_no_fault)
 
 pub returns-in-None-clause-reads : goal.returns-in-None-clause-reads
 returns-in-None-clause-reads g c =
-    reads_told g.D.Disk (reads_then g.D.Disk (c.loop-window.invariant.0).read.reads (λ failed. failed) c.in_ok-named.ensures.reads)
-    (λ failed. absurd (cc)) (λ failed. absurd (cc))
+    reads_right g.D.Disk (reads_then g.D.Disk (c.loop-window.invariant.0).read.reads (λ failed. failed) c.in_ok-named.ensures.reads)
+    ok_no_err ok_no_err
 
 pub returns-in_err-named-clause-damaged : goal.returns-in_err-named-clause-damaged
 returns-in_err-named-clause-damaged g c = λ at refused.
@@ -72,7 +72,7 @@ loop-window-preserved g c =
     let next = read_next g.D.Disk c.args.disk.now _ c.args.version c.args.plan.now c.args.size both.named c.loop-window.gate both.read
     c.next_record.new.disk named c.in-Some.next (found.0) (found.2) (found.3)
     (omega (arith, count, room_in_history _ (omega (arith, count, both.read.few)) (found.1))) opens
-    (reads_told g.D.Disk c.in_ok-named.ensures.reads (λ failed. absurd (cc)) (λ failed. absurd failed)) in (
+    (reads_right g.D.Disk c.in_ok-named.ensures.reads ok_no_err (λ failed. failed)) in (
       rw (c.in_ok-push-in-Some.ensures.items, c.in_ok-push-in-Some-2.ensures.items)
           (read_both g.D.Disk c.args.disk.now _ c.next_record.new.disk c.args.version c.args.plan.now c.args.size _ _ c.loop-window.gate c.in-Some.next named both next),
       λ told is. c.in_ok-named.ensures.shows told (both.read.reads.only.bytes ∙ is),

@@ -1,5 +1,8 @@
-use Rattle.std.proofs.Common.{◌≤◌, ◌-◌, inl, inr, length, drop, ap, Err, arith}
+use Rattle.std.proofs.Common.{◌≤◌, ◌-◌, inl, inr, length, drop, refl, ap, Err, arith}
 use Rattle.std.proofs.lemmas.List.{length-drop}
+use Rattle.std.proofs.result.Match.{err_is}
+use Rattle.px_journal.specs.declared.fault.RecoverWhy.TheVariants as whys
+use Rattle.px_journal.proofs.Going.{reads_told}
 use Rattle.px_journal.proofs.Reading.{front_open, front_opens, front_closed, front_cut, front_no_body, damaged_at}
 use Rattle.px_journal.proofs.Windows.{front_shown}
 use Rattle.px_journal.proofs.record.next_record.Goals as goal
@@ -46,3 +49,10 @@ returns-in-Err-Cut-clause-damaged g c = λ at refused told is.
       front_open (drop c.args.gate told) _ _ front_is long c.if-front-eq-CLOSED.false,
       inr (c.if-is_full.false, inl (damaged_at _ _ refused, omega (arith, cut, length-drop c.args.gate told, size, c.requires.within))),
     )
+
+pub returns-in_err-reach-clause-reads : goal.returns-in_err-reach-clause-reads
+returns-in_err-reach-clause-reads g c = reads_told g.D.Disk c.in_err-reach.ensures.reads (λ failed. err_is _ whys.DiskFault c.from_residual.ensures.1) (λ failed. refl)
+
+pub returns-in-Ok-clause-found : goal.returns-in-Ok-clause-found
+returns-in-Ok-clause-found g c =
+    let found = c.in-Ok.ensures in (found.fit, c.if-is_full.false, omega (arith, found.size.0), omega (arith, found.size.1))

@@ -1,7 +1,7 @@
 use Rattle.std.proofs.Common.{Err, ◌∙◌, ap, arith}
 use Rattle.px_journal.specs.declared.fault.RecoverWhy.TheVariants as whys
 use Rattle.px_journal.proofs.Creating.{not_nothing}
-use Rattle.px_journal.proofs.Going.{fault_came, handed_to, handed_from, reads_by_call, reads_then, reads_told}
+use Rattle.px_journal.proofs.Going.{fault_came, handed_to, handed_from, ok_no_err, reads_by_call, reads_right, reads_then, reads_told}
 use Rattle.px_journal.proofs.Undamaged.{open_not_closed}
 use Rattle.px_journal.proofs.recover.read_stable.Goals as goal
 
@@ -29,20 +29,20 @@ pub returns-in_err-plan-clause-reads : goal.returns-in_err-plan-clause-reads
 returns-in_err-plan-clause-reads g c =
     let size = c.in_ok-size.ensures in
     let counted = reads_then g.D.Disk (reads_by_call g.D.Disk _ size.reads size.unwritten size.stays size.cause) (λ failed. failed) c.in_ok-version.ensures.reads in
-    reads_told g.D.Disk (reads_then g.D.Disk counted (λ failed. absurd (cc)) c.in_err-plan.ensures.reads)
+    reads_told g.D.Disk (reads_then g.D.Disk counted ok_no_err c.in_err-plan.ensures.reads)
     (handed_to c.from_residual-in_err-plan.ensures.1) (handed_from c.from_residual-in_err-plan.ensures.1)
 
 pub returns-in_err-history-clause-reads : goal.returns-in_err-history-clause-reads
 returns-in_err-history-clause-reads g c =
     let size = c.in_ok-size.ensures in
     let counted = reads_then g.D.Disk (reads_by_call g.D.Disk _ size.reads size.unwritten size.stays size.cause) (λ failed. failed) c.in_ok-version.ensures.reads in
-    let read = reads_then g.D.Disk counted (λ failed. absurd (cc)) c.in_ok-plan.ensures.reads in
-    reads_told g.D.Disk (reads_then g.D.Disk read (λ failed. absurd (cc)) c.in_err-history.ensures.reads)
+    let read = reads_then g.D.Disk counted ok_no_err c.in_ok-plan.ensures.reads in
+    reads_told g.D.Disk (reads_then g.D.Disk read ok_no_err c.in_err-history.ensures.reads)
     (handed_to c.from_residual-in_err-history.ensures.1) (handed_from c.from_residual-in_err-history.ensures.1)
 
 pub returns-clause-reads : goal.returns-clause-reads
 returns-clause-reads g c =
     let size = c.in_ok-size.ensures in
     let counted = reads_then g.D.Disk (reads_by_call g.D.Disk _ size.reads size.unwritten size.stays size.cause) (λ failed. failed) c.in_ok-version.ensures.reads in
-    let read = reads_then g.D.Disk counted (λ failed. absurd (cc)) c.in_ok-plan.ensures.reads in
-    reads_told g.D.Disk (reads_then g.D.Disk read (λ failed. absurd (cc)) c.in_ok-history.ensures.reads) (λ failed. absurd (cc)) (λ failed. absurd (cc))
+    let read = reads_then g.D.Disk counted ok_no_err c.in_ok-plan.ensures.reads in
+    reads_right g.D.Disk (reads_then g.D.Disk read ok_no_err c.in_ok-history.ensures.reads) ok_no_err ok_no_err
