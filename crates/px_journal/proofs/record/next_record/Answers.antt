@@ -1,11 +1,20 @@
-use Rattle.std.proofs.Common.{◌≤◌, ◌-◌, inl, inr, length, drop, refl, ap, Err, arith}
+use Rattle.std.proofs.Common.{◌≤◌, ◌-◌, ℕ, false, inl, inr, length, drop, refl, ap, Err, arith}
+use Rattle.std.specs.Prelude.{IsErrOf}
+use Rattle.std.proofs.lemmas.Bool.{both_ways}
 use Rattle.std.proofs.lemmas.List.{length-drop}
 use Rattle.std.proofs.result.Match.{err_is}
 use Rattle.px_journal.specs.declared.fault.RecoverWhy.TheVariants as whys
-use Rattle.px_journal.proofs.Going.{reads_told}
+use Rattle.px_journal.proofs.Going.{ok_no_err, reads_right, reads_told}
 use Rattle.px_journal.proofs.Reading.{front_open, front_opens, front_closed, front_cut, front_no_body, damaged_at}
 use Rattle.px_journal.proofs.Windows.{front_shown}
 use Rattle.px_journal.proofs.record.next_record.Goals as goal
+
+-- neither damage nor want of memory is a fault of the disk
+damage_no_fault : {T : Type 0} (at : ℕ) → IsErrOf {T = T} (Err (whys.Damaged at)) whys.DiskFault → ⊥
+damage_no_fault at same = cc
+
+memory_no_fault : {T : Type 0} → IsErrOf {T = T} (Err whys.NoMemory) whys.DiskFault → ⊥
+memory_no_fault same = cc
 
 pub returns-in-Ok-clause-opens : goal.returns-in-Ok-clause-opens
 returns-in-Ok-clause-opens g c = λ told is.
@@ -56,3 +65,21 @@ returns-in_err-reach-clause-reads g c = reads_told g.D.Disk c.in_err-reach.ensur
 pub returns-in-Ok-clause-found : goal.returns-in-Ok-clause-found
 returns-in-Ok-clause-found g c =
     let found = c.in-Ok.ensures in (found.fit, c.if-is_full.false, omega (arith, found.size.0), omega (arith, found.size.1))
+
+pub returns-then-front-eq-CLOSED-clause-reads : goal.returns-then-front-eq-CLOSED-clause-reads
+returns-then-front-eq-CLOSED-clause-reads g c = reads_right g.D.Disk c.in_ok-reach.ensures.reads (both_ways false refl) ok_no_err
+
+pub returns-then-is_full-clause-reads : goal.returns-then-is_full-clause-reads
+returns-then-is_full-clause-reads g c = reads_right g.D.Disk c.in_ok-reach.ensures.reads (both_ways false refl) (damage_no_fault _)
+
+pub returns-in-Ok-clause-reads : goal.returns-in-Ok-clause-reads
+returns-in-Ok-clause-reads g c = reads_right g.D.Disk c.in_ok-reach.ensures.reads (both_ways false refl) ok_no_err
+
+pub returns-in-Err-Cut-clause-reads : goal.returns-in-Err-Cut-clause-reads
+returns-in-Err-Cut-clause-reads g c = reads_right g.D.Disk c.in_ok-reach.ensures.reads (both_ways false refl) (damage_no_fault _)
+
+pub returns-in-Err-NoEntry-clause-reads : goal.returns-in-Err-NoEntry-clause-reads
+returns-in-Err-NoEntry-clause-reads g c = reads_right g.D.Disk c.in_ok-reach.ensures.reads (both_ways false refl) (damage_no_fault _)
+
+pub returns-in-Err-NoMemory-clause-reads : goal.returns-in-Err-NoMemory-clause-reads
+returns-in-Err-NoMemory-clause-reads g c = reads_right g.D.Disk c.in_ok-reach.ensures.reads (both_ways false refl) memory_no_fault
