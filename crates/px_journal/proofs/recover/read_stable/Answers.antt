@@ -1,9 +1,16 @@
-use Rattle.std.proofs.Common.{Err, ◌∙◌, ap, arith}
+use Rattle.std.proofs.Common.{Err, ◌∙◌, ap, subst, arith}
+use Rattle.std.specs.Prelude.{IsErrOf}
+use Rattle.std.proofs.result.Match.{err_is}
+use Rattle.px_ports.specs.Disk.{Told}
+use Rattle.px_journal.specs.Journal.{WereRead}
 use Rattle.px_journal.specs.declared.fault.RecoverWhy.TheVariants as whys
 use Rattle.px_journal.proofs.Creating.{not_nothing}
-use Rattle.px_journal.proofs.Going.{fault_came, handed_to, handed_from, ok_no_err, reads_by_call, reads_right, reads_then, reads_told}
+use Rattle.px_journal.proofs.Going.{fault_came, handed_to, handed_from, ok_no_err, reads_by_call, reads_by_fault, reads_right, reads_then, reads_told}
 use Rattle.px_journal.proofs.Undamaged.{open_not_closed}
 use Rattle.px_journal.proofs.recover.read_stable.Goals as goal
+
+no_journal_no_fault : {T : Type 0} → IsErrOf {T = T} (Err whys.NoJournal) whys.DiskFault → ⊥
+no_journal_no_fault same = cc
 
 pub returns-in_err-version-clause-damaged : goal.returns-in_err-version-clause-damaged
 returns-in_err-version-clause-damaged g c = λ at refused told is.
@@ -46,3 +53,21 @@ returns-clause-reads g c =
     let counted = reads_then g.D.Disk (reads_by_call g.D.Disk _ size.reads size.unwritten size.stays size.cause) (λ failed. failed) c.in_ok-version.ensures.reads in
     let read = reads_then g.D.Disk counted ok_no_err c.in_ok-plan.ensures.reads in
     reads_right g.D.Disk (reads_then g.D.Disk read ok_no_err c.in_ok-history.ensures.reads) ok_no_err ok_no_err
+
+pub returns-in_err-size-clause-reads : goal.returns-in_err-size-clause-reads
+returns-in_err-size-clause-reads g c =
+    let size = c.in_err-size.ensures in
+    reads_by_fault g.D.Disk size.reads size.unwritten size.stays size.cause (err_is _ whys.DiskFault c.from_residual.ensures.1)
+
+pub returns-then-size-lt-TEXT_PLACE-clause-reads : goal.returns-then-size-lt-TEXT_PLACE-clause-reads
+returns-then-size-lt-TEXT_PLACE-clause-reads g c =
+    let size = c.in_ok-size.ensures in
+    reads_right g.D.Disk (reads_by_call g.D.Disk _ size.reads size.unwritten size.stays size.cause) (λ failed. failed) no_journal_no_fault
+
+pub returns-clause-read : goal.returns-clause-read
+returns-clause-read g c =
+    let history = c.in_ok-history.history in
+    let read = rw c.deref.ensures.value at c.in_ok-history.ensures.read in
+    subst
+    (λ (content : Told). WereRead content c.in_ok-version.version c.in_ok-plan.plan.items history.entries.items history.names.items history.gate)
+    (c.read_text.ensures.reads.only.bytes ∙ c.read_heading.ensures.reads.only.bytes ∙ c.len.ensures.reads.bytes) read
