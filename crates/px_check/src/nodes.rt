@@ -107,6 +107,25 @@ impl OpenNode {
     }
 }
 
+// Puts a node innermost, its names and those of its children nearest. With an Err some of these names may have been put
+// there.
+fn push_node(
+    alloc: Global,
+    node: OpenNode,
+    nodes: &mut Vec<OpenNode>,
+    names: &mut Scoped<bool>,
+) -> Result<(), NoMemory>
+    ensures nodes { OnOk result (nodes.new.items ≡ nodes.old.items ++ node ∷ []) }
+    ensures names { OnOk result (names.new ≡ named_heads (node.children ++ node.head ∷ []) ++ names.old) }
+    ensures same { OnErr result (nodes.new.items ≡ nodes.old.items) }
+    ensures over { OnErr result (IsOver names.old names.new) }
+{
+    nodes.reserve(1)?;
+    node.push_names(alloc, names)?;
+    push_in_room(nodes, node);
+    Ok(())
+}
+
 impl Nodes {
     /// No nodes.
     pub fn new(alloc: Global) -> Nodes
@@ -130,13 +149,11 @@ impl Nodes {
         ensures ok { OnOk result (self.new ≡ node ∷ self.old) }
         ensures err { OnErr result (self.new ≡ self.old) }
     {
-        self.open.reserve(1)?;
         let outer = self.names.len();
-        if let Err(fault) = node.push_names(alloc, &mut self.names) {
+        if let Err(fault) = push_node(alloc, node, &mut self.open, &mut self.names) {
             self.names.truncate(outer);
             return Err(fault);
         }
-        push_in_room(&mut self.open, node);
         Ok(())
     }
 
