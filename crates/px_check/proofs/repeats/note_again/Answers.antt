@@ -6,7 +6,7 @@ use Rattle.px_syntax.specs.declared.expr.Identifier.{Identifier}
 use Rattle.px_syntax.specs.declared.fault.FaultKind.TheVariants.{Redeclared}
 use Rattle.px_check.proofs.Repeating.{name_walked}
 use Rattle.px_check.proofs.Walking.{all_walked}
-use Rattle.px_check.proofs.repeats.note_redeclared.Goals as goal
+use Rattle.px_check.proofs.repeats.note_again.Goals as goal
 
 pub loop-identifier-preserved : goal.loop-identifier-preserved
 loop-identifier-preserved c =
