@@ -111,11 +111,12 @@ callable_meant name named globals is =
     ∙ option_map_id (declared globals name)
 
 -- the invariant of the walk from the last callable to the first: what is named, behind the rest
-pub callable_more : (all rest others : List Callable) (first : Callable) (named more : List (List ℕ × Global))
+pub callable_more : (all : List (List ℕ × Global)) (rest others : List Callable) (first : Callable)
+    (named more : List (List ℕ × Global))
     → rest ≡ others ++ first ∷ []
     → more ≡ by_name (callable_data first ∷ []) ++ named
-    → by_name (map callable_data rest) ++ named ≡ by_name (map callable_data all)
-    → by_name (map callable_data others) ++ more ≡ by_name (map callable_data all)
+    → by_name (map callable_data rest) ++ named ≡ all
+    → by_name (map callable_data others) ++ more ≡ all
 callable_more all rest others first named more split more_is invariant =
     let globals = map callable_data others in
     let own = callable_data first ∷ [] in

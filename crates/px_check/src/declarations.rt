@@ -10,7 +10,7 @@ ghost use Rattle.px_check.specs.Globals.{callable_data};
 
 use crate::calls::ARGUMENT_LIMIT;
 use crate::found::Found;
-use crate::globals::{Callable, commands, lookups};
+use crate::globals::{Callable, Sort, callables};
 use crate::repeats::note_redeclared;
 use px_syntax::{Declaration, FaultKind, Identifier};
 use px_value::NoMemory;
@@ -56,6 +56,10 @@ pub fn note_declarations(
         (global_faults (flat_map commands_in (map declaration_data declarations.now))
         ++ global_faults (flat_map lookups_in (map declaration_data declarations.now)))) }
 {
-    note_callables(alloc, &commands(alloc, declarations)?, found)?;
-    note_callables(alloc, &lookups(alloc, declarations)?, found)
+    note_callables(
+        alloc,
+        &callables(alloc, Sort::Command, declarations)?,
+        found,
+    )?;
+    note_callables(alloc, &callables(alloc, Sort::Lookup, declarations)?, found)
 }

@@ -4,13 +4,20 @@ ghost use Rattle.std.specs.List.{flat_map};
 ghost use Rattle.std.specs.Option.{option_to_list};
 ghost use Rattle.px_syntax.specs.Plan.{declaration_data};
 ghost use Rattle.px_syntax.specs.Scope.{declared, commands_in, lookups_in};
-ghost use Rattle.px_check.specs.Globals.{callable_data, callables_data, by_name};
+ghost use Rattle.px_check.specs.Globals.{callable_data, callables_data, by_name, declared_as};
 
 use crate::scoped::Scoped;
 use px_syntax::{Declaration, Identifier, Parameter, TypeName};
 use px_value::{Name, NoMemory};
 use std::alloc::Global;
 use std::marker::Model;
+
+/// What a declaration declares.
+#[derive(Clone, Copy)]
+pub enum Sort {
+    Command,
+    Lookup,
+}
 
 /// A declared command or lookup: what it gives, if it gives anything, and its parameters.
 #[derive(Clone, Copy)]
@@ -50,12 +57,12 @@ impl<'a> Globals<'a> {
     pub fn new(alloc: Global, declarations: &'a [Declaration]) -> Result<Globals<'a>, NoMemory>
         ensures { IfOk result (λ globals. globals ≡ map declaration_data declarations.now) }
     {
-        let commands = commands(alloc, declarations)?;
-        let lookups = lookups(alloc, declarations)?;
+        let commands = by_name(alloc, Sort::Command, declarations)?;
+        let lookups = by_name(alloc, Sort::Lookup, declarations)?;
         Ok(Globals {
             declarations,
-            commands: by_name(alloc, commands)?,
-            lookups: by_name(alloc, lookups)?,
+            commands,
+            lookups,
         })
     }
 
@@ -81,14 +88,16 @@ impl<'a> Globals<'a> {
     }
 }
 
-// These by their names, of two of one name the first nearest.
-fn by_name<'a>(
+// What is declared of one sort by its names, of two of one name the first nearest.
+fn by_name(
     alloc: Global,
-    callables: Vec<Callable<'a>>,
-) -> Result<Scoped<Callable<'a>>, NoMemory>
-    ensures { IfOk result (λ named. callables_data named ≡ by_name (map callable_data callables.entry.items)) }
+    sort: Sort,
+    declarations: &[Declaration],
+) -> Result<Scoped<Callable<'_>>, NoMemory>
+    ensures { IfOk result (λ named. callables_data named
+        ≡ by_name (flat_map (declared_as sort) (map declaration_data declarations.now))) }
 {
-    let mut callables = callables;
+    let mut callables = callables(alloc, sort, declarations)?;
     let mut named = Scoped::new(alloc);
     while let Some(callable) = callables.pop() {
         named.push(alloc, &callable.name.name, callable)?;
@@ -96,37 +105,35 @@ fn by_name<'a>(
     Ok(named)
 }
 
-fn as_command(declaration: &Declaration) -> Option<Callable<'_>>
-    ensures { option_to_list (option_map callable_data result) ≡ commands_in (declaration_data declaration.now) }
+fn as_callable(sort: Sort, declaration: &Declaration) -> Option<Callable<'_>>
+    ensures { option_to_list (option_map callable_data result) ≡ declared_as sort (declaration_data declaration.now) }
 {
-    match declaration {
-        Declaration::Command {
-            answer,
-            name,
-            parameters,
-        } => Some(Callable {
+    match (sort, declaration) {
+        (
+            Sort::Command,
+            Declaration::Command {
+                answer,
+                name,
+                parameters,
+            },
+        ) => Some(Callable {
             name,
             answer: *answer,
             parameters: parameters.as_slice(),
         }),
-        Declaration::Lookup { .. } => None,
-    }
-}
-
-fn as_lookup(declaration: &Declaration) -> Option<Callable<'_>>
-    ensures { option_to_list (option_map callable_data result) ≡ lookups_in (declaration_data declaration.now) }
-{
-    match declaration {
-        Declaration::Command { .. } => None,
-        Declaration::Lookup {
-            answer,
-            name,
-            parameters,
-        } => Some(Callable {
+        (
+            Sort::Lookup,
+            Declaration::Lookup {
+                answer,
+                name,
+                parameters,
+            },
+        ) => Some(Callable {
             name,
             answer: Some(*answer),
             parameters: parameters.as_slice(),
         }),
+        _ => None,
     }
 }
 
@@ -143,26 +150,18 @@ fn push_some<'a>(
     Ok(())
 }
 
-/// The declared commands, in their order.
-pub fn commands(alloc: Global, declarations: &[Declaration]) -> Result<Vec<Callable<'_>>, NoMemory>
+/// What is declared of one sort, in its order.
+pub fn callables(
+    alloc: Global,
+    sort: Sort,
+    declarations: &[Declaration],
+) -> Result<Vec<Callable<'_>>, NoMemory>
     ensures { IfOk result (λ callables. map callable_data callables.items
-        ≡ flat_map commands_in (map declaration_data declarations.now)) }
+        ≡ flat_map (declared_as sort) (map declaration_data declarations.now)) }
 {
     let mut callables = Vec::new(alloc);
     for declaration in declarations {
-        push_some(&mut callables, as_command(declaration))?;
-    }
-    Ok(callables)
-}
-
-/// The declared lookups, in their order.
-pub fn lookups(alloc: Global, declarations: &[Declaration]) -> Result<Vec<Callable<'_>>, NoMemory>
-    ensures { IfOk result (λ callables. map callable_data callables.items
-        ≡ flat_map lookups_in (map declaration_data declarations.now)) }
-{
-    let mut callables = Vec::new(alloc);
-    for declaration in declarations {
-        push_some(&mut callables, as_lookup(declaration))?;
+        push_some(&mut callables, as_callable(sort, declaration))?;
     }
     Ok(callables)
 }

@@ -13,9 +13,9 @@ returns c =
     (c.in_ok-note_callables.ensures
     ∙ ap (λ (callables : List Callable). noted c.args.found.now (global_faults (map callable_data callables)))
     c.deref.ensures.value
-    ∙ ap (λ globals. noted c.args.found.now (global_faults globals)) c.in_ok-commands.ensures)
+    ∙ ap (λ globals. noted c.args.found.now (global_faults globals)) c.in_ok-callables.ensures)
     (own
     ∙ ap (λ (callables : List Callable). noted c.note_callables.new.found (global_faults (map callable_data callables)))
     c.deref-2.ensures.value
-    ∙ ap (λ globals. noted c.note_callables.new.found (global_faults globals)) c.in_ok-lookups.ensures))
+    ∙ ap (λ globals. noted c.note_callables.new.found (global_faults globals)) c.in_ok-callables-2.ensures))
     c.note_callables-2.ensures
