@@ -1,13 +1,13 @@
 -- What expressions are at fault for, noted part by part.
-use Rattle.std.proofs.Common.{◌≡◌, ℕ, suc, ◌+◌, ◌<◌, ◌≤◌, Bool, not, ◌&&◌, List, [], ◌∷◌, ◌++◌, map, drop, length, get_or}
-use Rattle.std.proofs.Common.{Option, refl, sym, ap, ◌∙◌, if◌then◌else◌}
+use Rattle.std.proofs.Common.{◌≡◌, ℕ, suc, ◌+◌, ◌<◌, ◌≤◌, Bool, ◌&&◌, List, [], ◌∷◌, ◌++◌, map, drop, length, get_or}
+use Rattle.std.proofs.Common.{Option, refl, sym, ap, ◌∙◌, append_assoc, if◌then◌else◌}
 use Rattle.std.proofs.lemmas.List.{drop-drop, length-map}
 use Rattle.px_value.proofs.General.{cut_at}
 use Rattle.px_syntax.specs.Expr.{Term, Terms, term_of, in_turn, More}
-use Rattle.px_syntax.specs.ExprFaults.{first_token, count_terms, look_faults, any_where_faulty, any_unless_allowed, answer_type, type_of, expr_faults, type_fault, alike_fault, argument_faults, parameters_of}
+use Rattle.px_syntax.specs.ExprFaults.{first_token, count_terms, look_faults, any_where_faulty, any_unless_allowed, answer_type, type_of, expr_faults, type_fault, faults_as, alike_fault, argument_faults, parameters_of}
 use Rattle.px_syntax.specs.Fault.{Fault, fault_where}
 use Rattle.px_syntax.specs.Scope.{Scope, Global}
-use Rattle.px_syntax.specs.ValueType.{Signature, fits, differ}
+use Rattle.px_syntax.specs.ValueType.{Signature, differ}
 use Rattle.px_syntax.specs.declared.expr.Identifier.{Identifier}
 use Rattle.px_syntax.specs.declared.expr.SurfaceExpr.{SurfaceExpr}
 use Rattle.px_syntax.specs.declared.expr.Tolerance.{Tolerance}
@@ -19,22 +19,21 @@ use Rattle.px_check.specs.Found.{Sought, noted}
 use Rattle.px_check.proofs.Noting.{noted_append, noted_then}
 use Rattle.px_check.proofs.Walking.{all_walked}
 
--- an expression
-pub part_noted : (scope : Scope) (tree part : SurfaceExpr) (found new : Sought) → part ≡ tree
-    → new ≡ noted found (expr_faults scope (term_of part)) → new ≡ noted found (expr_faults scope (term_of tree))
-part_noted scope tree part found new part_is parts =
-    parts ∙ ap (λ tree. noted found (expr_faults scope (term_of tree))) part_is
+-- an operand
+pub operand_noted : (allowed given_allowed : List ValueType) (scope : Scope) (tree part : SurfaceExpr)
+    (found new : Sought) → part ≡ tree → given_allowed ≡ allowed
+    → new ≡ noted found (faults_as given_allowed scope (term_of part))
+    → new ≡ noted found (faults_as allowed scope (term_of tree))
+operand_noted allowed given_allowed scope tree part found new part_is allowed_is own =
+    own ∙ (λ i. noted found (faults_as (allowed_is i) scope (term_of (part_is i))))
 
--- its type
-pub type_noted : (allowed given_allowed : List ValueType) (scope : Scope) (tree part shown : SurfaceExpr)
-    (given : ValueType) (found new : Sought) → part ≡ tree → shown ≡ tree → given_allowed ≡ allowed
-    → given ≡ type_of scope (term_of part)
-    → new ≡ noted found (fault_where (not (fits given_allowed given)) TypeDiffers (first_token (term_of shown)))
-    → new ≡ noted found (type_fault allowed scope (term_of tree))
-type_noted allowed given_allowed scope tree part shown given found new part_is shown_is allowed_is given_is own =
-    let type_is = given_is ∙ ap (λ tree. type_of scope (term_of tree)) part_is in
-    own ∙ (λ i. noted found
-    (fault_where (not (fits (allowed_is i) (type_is i))) TypeDiffers (first_token (term_of (shown_is i)))))
+-- an operand behind what stands before it
+pub operand_then : (allowed : List ValueType) (scope : Scope) (term : Term) (before : List Fault)
+    (found between new : Sought) → between ≡ noted found before → new ≡ noted between (faults_as allowed scope term)
+    → new ≡ noted found (before ++ expr_faults scope term ++ type_fault allowed scope term)
+operand_then allowed scope term before found between new first second =
+    noted_then found between new before (faults_as allowed scope term) first second
+    ∙ ap (noted found) (sym (append_assoc before (expr_faults scope term) (type_fault allowed scope term)))
 
 -- two operands that have to be of one type
 pub alike_noted : (known given : Signature) (scope : Scope) (left left_part right right_part shown : SurfaceExpr)
@@ -72,22 +71,20 @@ argument_step scope (parameter ∷ parameters) first rest = refl
 
 -- an argument more
 pub argument_noted : (scope : Scope) (args : List SurfaceExpr) (parameters : List ValueType) (place : ℕ) (arg : SurfaceExpr)
-    (allowed : List ValueType) (given : ValueType) (found between new : Sought)
+    (allowed : List ValueType) (found new : Sought)
     → place < length args → arg ≡ get_or args place arg → allowed ≡ allowed_next (drop place parameters)
-    → given ≡ type_of scope (term_of arg) → between ≡ noted found (expr_faults scope (term_of arg))
-    → new ≡ noted between (fault_where (not (fits allowed given)) TypeDiffers (first_token (term_of arg)))
+    → new ≡ noted found (faults_as allowed scope (term_of arg))
     → noted new (argument_faults scope (drop (place + 1) parameters) (in_turn (map term_of (drop (place + 1) args))))
     ≡ noted found (argument_faults scope (drop place parameters) (in_turn (map term_of (drop place args))))
-argument_noted scope args parameters place arg allowed given found between new within arg_is allowed_is given_is parts own =
+argument_noted scope args parameters place arg allowed found new within arg_is allowed_is own =
     let next = drop place parameters in
     let rest = drop (place + 1) args in
     let cut : drop place args ≡ arg ∷ rest =
     cut_at args place arg within arg_is in
     let further : drop (place + 1) parameters ≡ drop 1 next = sym (drop-drop 1 place parameters) in
-    let typed = noted_then found between new (expr_faults scope (term_of arg)) (type_fault (allowed_next next) scope (term_of arg))
-    parts (type_noted (allowed_next next) allowed scope arg arg arg given between new refl refl allowed_is given_is own) in
+    let typed = operand_noted (allowed_next next) allowed scope arg arg found new refl allowed_is own in
     (λ i. noted (typed i) (argument_faults scope (further i) (in_turn (map term_of rest))))
-    ∙ sym (noted_append found (expr_faults scope (term_of arg) ++ type_fault (allowed_next next) scope (term_of arg))
+    ∙ sym (noted_append found (faults_as (allowed_next next) scope (term_of arg))
     (argument_faults scope (drop 1 next) (in_turn (map term_of rest))))
     ∙ ap (noted found) (sym (argument_step scope next (term_of arg) (in_turn (map term_of rest))))
     ∙ ap (λ left. noted found (argument_faults scope next (in_turn (map term_of left)))) (sym cut)

@@ -117,8 +117,7 @@ impl<'a> Scope<'a> {
             SurfaceExpr::Variable(name) => self.named(FaultKind::TypeDiffers, name, false, found),
             SurfaceExpr::Element { array, index } => {
                 let of_type = self.named(FaultKind::TypeDiffers, array, true, found);
-                let given = self.type_of(index, found);
-                judge(Allowed::Only(ValueType::Integer), given, index, found);
+                let _ = self.operand(Allowed::Only(ValueType::Integer), index, found);
                 of_type
             }
             SurfaceExpr::Attribute { node, attribute } => self.attribute(node, *attribute, found),
@@ -143,8 +142,7 @@ impl<'a> Scope<'a> {
                 ..
             } => {
                 let signature = unary_function_signature(*function);
-                let given = self.type_of(argument, found);
-                judge(signature.takes, given, argument, found);
+                let _ = self.operand(signature.takes, argument, found);
                 signature.gives
             }
             SurfaceExpr::BinaryCall {
@@ -154,10 +152,8 @@ impl<'a> Scope<'a> {
                 ..
             } => {
                 let signature = binary_function_signature(*function);
-                let first_given = self.type_of(first, found);
-                judge(signature.takes, first_given, first, found);
-                let second_given = self.type_of(second, found);
-                judge(signature.takes, second_given, second, found);
+                let first_given = self.operand(signature.takes, first, found);
+                let second_given = self.operand(signature.takes, second, found);
                 signature.result(first_given, second_given)
             }
             SurfaceExpr::Unary {
@@ -166,8 +162,7 @@ impl<'a> Scope<'a> {
                 ..
             } => {
                 let signature = unary_signature(*operator);
-                let given = self.type_of(operand, found);
-                judge(signature.takes, given, operand, found);
+                let _ = self.operand(signature.takes, operand, found);
                 signature.gives
             }
             SurfaceExpr::Binary {
@@ -176,14 +171,24 @@ impl<'a> Scope<'a> {
                 right,
             } => {
                 let signature = binary_signature(*operator);
-                let left_given = self.type_of(left, found);
-                judge(signature.takes, left_given, left, found);
-                let right_given = self.type_of(right, found);
-                judge(signature.takes, right_given, right, found);
+                let left_given = self.operand(signature.takes, left, found);
+                let right_given = self.operand(signature.takes, right, found);
                 judge_alike(signature, left_given, right_given, right, found);
                 signature.result(left_given, right_given)
             }
         }
+    }
+
+    // The type of an expression. Notes what it is at fault for at a place that allows these types.
+    #[cycle(expression)]
+    #[tactic(auto, using(crate::proofs::Noting::noting))]
+    fn operand(&self, allowed: Allowed, term: &SurfaceExpr, found: &mut Found) -> ValueType
+        ensures of_type { result ≡ type_of self.now (term_of term.now) }
+        ensures found { found.new ≡ noted found.old (faults_as (types_of allowed) self.now (term_of term.now)) }
+    {
+        let given = self.type_of(term, found);
+        judge(allowed, given, term, found);
+        given
     }
 
     /// Notes what arguments are at fault for, each by its parameter.
@@ -194,8 +199,7 @@ impl<'a> Scope<'a> {
             (argument_faults self.now (parameter_types parameters.now) (in_turn (map term_of args.now))) }
     {
         for (place, arg) in args.iter().enumerate() {
-            let given = self.type_of(arg, found);
-            judge(allowed_at(parameters, place), given, arg, found);
+            let _ = self.operand(allowed_at(parameters, place), arg, found);
         }
     }
 
@@ -204,7 +208,6 @@ impl<'a> Scope<'a> {
     pub fn expression(&self, allowed: Allowed, term: &SurfaceExpr, found: &mut Found)
         ensures { found.new ≡ noted found.old (faults_as (types_of allowed) self.now (term_of term.now)) }
     {
-        let given = self.type_of(term, found);
-        judge(allowed, given, term, found);
+        let _ = self.operand(allowed, term, found);
     }
 }
