@@ -29,15 +29,14 @@ pub own_told : {X : Type 0} (f : X → BodyTree) (own : Option X) (tree : Option
 own_told f own tree own_is = is_some_mapped f own ∙ ap is_some own_is
 
 pub block_noted : (scope : Scope) (label : Option Identifier) (block : Block) (own : Bool) (entered : Scope)
-    (labels : List Identifier) (found after_items after_labels new : Sought)
+    (found after_items after_labels new : Sought)
     → entered ≡ inside_block scope label (block_of block)
     → after_items ≡ noted found (items_faults entered (map item_data (out-Block block).items.items))
-    → labels ≡ action_labels (in_turn (out-Block block).actions.items)
-    → after_labels ≡ noted after_items (redeclared labels)
+    → after_labels ≡ noted after_items (redeclared (action_labels (in_turn (out-Block block).actions.items)))
     → own ≡ is_some (own_action (block_of block))
     → new ≡ noted after_labels (actions_faults entered own (in_turn (out-Block block).actions.items))
     → new ≡ noted found (block_faults scope label (block_of block))
-block_noted scope label block own entered labels found after_items after_labels new entered_is items_is labels_is redeclared_is own_is actions_is =
+block_noted scope label block own entered found after_items after_labels new entered_is items_is labels_are own_is actions_is =
     let items = map item_data (out-Block block).items.items in
     let actions = in_turn (out-Block block).actions.items in
     let tree = Braces (out-Block block).form items actions in
@@ -49,7 +48,7 @@ block_noted scope label block own entered labels found after_items after_labels 
     (noted_then found after_items after_labels (items_faults (inside_block scope label tree) items)
     (redeclared (action_labels actions))
     (items_is ∙ ap (λ place. noted found (items_faults place items)) place)
-    (redeclared_is ∙ ap (λ labels. noted after_items (redeclared labels)) labels_is))
+    labels_are)
     (actions_is ∙ (λ i. noted after_labels (actions_faults (place i) (one i) actions)))
     ∙ ap (λ tree. noted found (block_faults scope label tree)) (sym (block_is block))
 

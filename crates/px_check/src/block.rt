@@ -1,7 +1,7 @@
 // What blocks and their actions are at fault for.
 ghost use Rattle.std.specs.Prelude.{◌≡◌, [], ◌∷◌, ◌++◌, IsTrue, map, option_map, OnOk};
 ghost use Rattle.px_syntax.specs.Block.{block_of, body_of, action_of, branch_of, guarded_of, actions_in_turn, else_ifs_in_turn, else_of};
-ghost use Rattle.px_syntax.specs.BlockFaults.{inside_last, else_child, block_faults, actions_faults, body_faults, guarded_faults, else_if_faults, else_faults, branch_faults};
+ghost use Rattle.px_syntax.specs.BlockFaults.{redeclared, action_labels, inside_last, else_child, block_faults, actions_faults, body_faults, guarded_faults, else_if_faults, else_faults, branch_faults};
 ghost use Rattle.px_syntax.specs.Expr.{term_of};
 ghost use Rattle.px_syntax.specs.ExprFaults.{faults_as};
 ghost use Rattle.px_syntax.specs.Scope.{is_simple};
@@ -17,6 +17,14 @@ use crate::types::Allowed;
 use px_syntax::{Action, Block, Body, Branch, Guarded, Identifier, SurfaceExpr, ValueType};
 use px_value::NoMemory;
 use std::alloc::Global;
+
+// Notes each label of these actions that one before it has.
+fn note_action_labels(alloc: Global, actions: &[Action], found: &mut Found) -> Result<(), NoMemory>
+    ensures { OnOk result (found.new
+        ≡ noted found.old (redeclared (action_labels (actions_in_turn (map action_of actions.now))))) }
+{
+    note_redeclared(alloc, &action_labels(alloc, actions)?, found)
+}
 
 impl<'a> Scope<'a> {
     // What an assignment, a command or an update is at fault for.
@@ -73,7 +81,7 @@ impl<'a> Scope<'a> {
         let outer = self.mark();
         self.enter_block(alloc, label, block)?;
         self.items(alloc, &block.items, found)?;
-        note_redeclared(alloc, &action_labels(alloc, &block.actions)?, found)?;
+        note_action_labels(alloc, &block.actions, found)?;
         let is_one_node = own_action(block).is_some();
         self.actions(alloc, is_one_node, &block.actions, found)?;
         self.back_to(outer);

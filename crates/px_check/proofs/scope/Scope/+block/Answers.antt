@@ -1,12 +1,10 @@
 use Rattle.std.proofs.Common.{◌+◌, List, Option, map, option_map, refl, ap, sym, ◌∙◌}
-use Rattle.std.specs.Borrow.{Bor}
 use Rattle.std.proofs.lemmas.List.{take_rest}
 use Rattle.std.proofs.lemmas.Result.{on_ok_weaker}
 use Rattle.std.proofs.Math.ListN.{drop_of_length-le}
 use Rattle.px_syntax.specs.declared.block.Action.{Action, out-Action}
 use Rattle.px_syntax.specs.declared.block.Branch.{Branch}
 use Rattle.px_syntax.specs.declared.block.Guarded.{Guarded}
-use Rattle.px_syntax.specs.declared.expr.Identifier.{Identifier}
 use Rattle.px_syntax.specs.Block.{BodyTree, body_of, branch_of, guarded_of, else_of, else_ifs_in_turn, item_data}
 use Rattle.px_syntax.specs.BlockFaults.{redeclared, items_faults, action_labels, actions_faults, body_faults, guarded_faults, else_if_faults, else_child, else_faults, if_label_faults, inside_if, inside_last}
 use Rattle.px_syntax.specs.Expr.{term_of}
@@ -25,19 +23,17 @@ use Rattle.px_check.proofs.scope.Scope.+block.Goals as goal
 
 pub block-returns-clause-found : goal.block-returns-clause-found
 block-returns-clause-found t c =
-    block_noted c.args.self.now c.args.label.now c.args.block.now c.is_some-is_one_node.result c.enter_block.new.self _
-    c.args.found.now c.items.new.found c.note_redeclared.new.found c.actions.new.found
+    block_noted c.args.self.now c.args.label.now c.args.block.now c.is_some-is_one_node.result c.enter_block.new.self
+    c.args.found.now c.items.new.found c.note_action_labels.new.found c.actions.new.found
     c.in_ok-enter_block.ensures
     (c.in_ok-items.ensures
     ∙ ap (λ items. noted c.args.found.now (items_faults c.enter_block.new.self (map item_data items))) c.deref.ensures.value)
-    (c.in_ok-action_labels.ensures ∙ ap (λ actions. action_labels (in_turn actions)) c.deref-2.ensures.value)
-    (c.in_ok-note_redeclared.ensures
-    ∙ ap (λ (labels : List (Bor Identifier)). noted c.items.new.found (redeclared (map (λ label. label.now) labels)))
-    c.deref-3.ensures.value)
+    (c.in_ok-note_action_labels.ensures
+    ∙ ap (λ actions. noted c.items.new.found (redeclared (action_labels (in_turn actions)))) c.deref-2.ensures.value)
     (c.is_some-is_one_node.ensures ∙ own_told _ _ _ c.own_action.ensures)
     (c.in_ok-actions.ensures.found
-    ∙ ap (λ actions. noted c.note_redeclared.new.found
-    (actions_faults c.enter_block.new.self c.is_some-is_one_node.result (in_turn actions))) c.deref-4.ensures.value)
+    ∙ ap (λ actions. noted c.note_action_labels.new.found
+    (actions_faults c.enter_block.new.self c.is_some-is_one_node.result (in_turn actions))) c.deref-3.ensures.value)
 
 pub actions-loop-action-preserved : goal.actions-loop-action-preserved
 actions-loop-action-preserved t c = record {
