@@ -1,5 +1,5 @@
 // Expressions.
-ghost use Rattle.std.specs.Prelude.{◌≡◌, ◌++◌, map, OnOk};
+ghost use Rattle.std.specs.Prelude.{◌≡◌, ◌++◌, flat_map, map, OnOk};
 ghost use Rattle.px_syntax.specs.Expr.{term_of, in_turn};
 ghost use Rattle.px_print.specs.ExprLayout.{term_text, arguments_text, as_optional, operand_text};
 
@@ -21,9 +21,7 @@ pub(crate) fn push_expression(term: &SurfaceExpr, out: &mut Vec<u8>) -> Result<(
         SurfaceExpr::Enumerated { value, .. } => push_all(out, &[enumerated_word(*value)]),
         SurfaceExpr::Variable(name) => push_name(name, out),
         SurfaceExpr::Element { array, index } => {
-            push_all(out, &[array.name.as_str(), "["])?;
-            push_expression(index, out)?;
-            push_all(out, &["]"])
+            push_between(&[array.name.as_str(), "["], index, "]", out)
         }
         SurfaceExpr::Attribute { node, attribute } => push_attribute(node, *attribute, out),
         SurfaceExpr::Look {
@@ -43,22 +41,15 @@ pub(crate) fn push_expression(term: &SurfaceExpr, out: &mut Vec<u8>) -> Result<(
             function,
             argument,
             ..
-        } => {
-            push_all(out, &[unary_function_word(*function), "("])?;
-            push_expression(argument, out)?;
-            push_all(out, &[")"])
-        }
+        } => push_between(&[unary_function_word(*function), "("], argument, ")", out),
         SurfaceExpr::BinaryCall {
             function,
             first,
             second,
             ..
         } => {
-            push_all(out, &[binary_function_word(*function), "("])?;
-            push_expression(first, out)?;
-            push_all(out, &[", "])?;
-            push_expression(second, out)?;
-            push_all(out, &[")"])
+            push_between(&[binary_function_word(*function), "("], first, ", ", out)?;
+            push_between(&[], second, ")", out)
         }
         SurfaceExpr::Unary {
             operator,
@@ -86,12 +77,26 @@ fn push_operand(operand: &SurfaceExpr, out: &mut Vec<u8>) -> Result<(), NoMemory
 {
     match operand {
         SurfaceExpr::Unary { .. } | SurfaceExpr::Binary { .. } => {
-            push_all(out, &["("])?;
-            push_expression(operand, out)?;
-            push_all(out, &[")"])
+            push_between(&["("], operand, ")", out)
         }
         _ => push_expression(operand, out),
     }
+}
+
+/// Appends an expression, with texts before it and one behind it.
+#[cycle(expression)]
+fn push_between(
+    before: &[&str],
+    term: &SurfaceExpr,
+    behind: &str,
+    out: &mut Vec<u8>,
+) -> Result<(), NoMemory>
+    ensures { OnOk result (out.new.items ≡ out.old.items
+        ++ (flat_map (λ part. part.now) before.now ++ (term_text (term_of term.now) ++ behind.now))) }
+{
+    push_all(out, before)?;
+    push_expression(term, out)?;
+    push_all(out, &[behind])
 }
 
 /// Appends the arguments of a lookup in parentheses, where it has any.
