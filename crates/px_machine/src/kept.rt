@@ -11,8 +11,8 @@ ghost use Rattle.px_machine.specs.Seen.{IsSeen};
 
 use crate::queue::all_behind;
 use crate::tree::{parents, places};
-use px_cached::Cached;
 use px_assign::Claims;
+use px_cached::Cached;
 use px_core::ConditionKind;
 use px_flat::Flat;
 use px_links::Links;
